@@ -1,0 +1,133 @@
+-- The place of a key decides what setting or removing its entry does. With it the turns of the loops that look for a
+-- place, for an entry and for the longest entry that covers an address. Assumes nothing.
+use mathlib.Core.Path.{_≡_, refl, sym, ap, _∙_}
+use mathlib.Core.List.{List, [], _∷_}
+use mathlib.Core.Bool.{true, false, _||_}
+use Prim.Native.Nat.{ℕ, zero, suc, _+_, _-_, _≤_, _<_, zero-le, suc-le-suc}
+use native.Mathlib.Nat.{zero-lt-suc}
+use native.Mathlib.Numerals.{add-one}
+use native.Mathlib.Omega.{arith}
+use lib.ListN.{length, take, drop, getD, set}
+use Rattle.answer.specs.Ask.{pick}
+use Rattle.answer.proofs.Bools.{by-bool, tf, pick-ap}
+use Rattle.lists.specs.Kinds.{among}
+use Rattle.lists.proofs.Stores.{front, back}
+use Rattle.flow.specs.Rules.{Key, keyOf, ruleKey, before, sameKey}
+use Rattle.flow.specs.Tables.{emptyEntry}
+use Rattle.flow.specs.Changes.{setEntry, dropEntry, act, applyRule, hasEntry}
+use Rattle.flow.specs.Changes.{placeOf, heads, presentAt, setAt, dropAt}
+use Rattle.flow.specs.Lookups.{covers, better, bestOf}
+use Rattle.flow.specs.declared.Action.{Action}
+use Rattle.flow.specs.declared.Action.the-variants.{Remove, Set}
+use Rattle.flow.specs.declared.Rule.{Rule}
+use Rattle.flow.specs.declared.Entry.{Entry}
+use Rattle.flow.specs.declared.Found.the-variants.{Nothing}
+
+pub place-le : (k : Key) (es : List Entry) → placeOf k es ≤ length es
+unfolding placeOf
+place-le k [] = zero-le
+place-le k (f ∷ fs) = by-bool (before (keyOf f) k) (λ b. rw b (suc-le-suc (place-le k fs))) (λ b. rw b zero-le)
+
+-- only a place of the list has an entry
+pub present-lt : (k : Key) (at : ℕ) (es : List Entry) → presentAt at k es ≡ true → at < length es
+present-lt k zero [] e = tf e refl
+present-lt k (suc at) [] e = tf e refl
+present-lt k zero (f ∷ fs) e = zero-lt-suc (length fs)
+present-lt k (suc at) (f ∷ fs) e = suc-le-suc (present-lt k at fs e)
+
+-- an entry set takes the place of the one with its key, or is put in there
+pub set-law : (e : Entry) (es : List Entry)
+    → setEntry e es ≡ pick (presentAt (placeOf (keyOf e) es) (keyOf e) es) (set es (placeOf (keyOf e) es) e)
+    (setAt (placeOf (keyOf e) es) e es)
+unfolding placeOf setEntry
+set-law e [] = refl
+set-law e (f ∷ fs) =
+    let at = placeOf (keyOf e) fs in
+    by-bool (before (keyOf f) (keyOf e))
+    (λ b. rw b (ap (λ (l : List Entry). f ∷ l) (set-law e fs)
+    ∙ sym (pick-ap (λ (l : List Entry). f ∷ l) (presentAt at (keyOf e) fs) (set fs at e) (setAt at e fs))))
+    (λ b. rw b)
+
+-- an entry removed is the one at the place of its key, if it stands there
+pub drop-law : (k : Key) (es : List Entry)
+    → dropEntry k es ≡ pick (presentAt (placeOf k es) k es) (dropAt (placeOf k es) es) es
+unfolding placeOf dropEntry
+drop-law k [] = refl
+drop-law k (f ∷ fs) =
+    let at = placeOf k fs in
+    by-bool (before (keyOf f) k)
+    (λ b. rw b (ap (λ (l : List Entry). f ∷ l) (drop-law k fs)
+    ∙ sym (pick-ap (λ (l : List Entry). f ∷ l) (presentAt at k fs) (dropAt at fs) fs)))
+    (λ b. rw b)
+
+-- what a rule does, by its action
+pub apply-remove : (r : Rule) (es : List Entry) → r .action ≡ Remove → applyRule r es ≡ dropEntry (ruleKey r) es
+apply-remove r es h = ap (λ (a : Action). act a (ruleKey r) es) h
+
+pub apply-set : (r : Rule) (port : ℕ) (es : List Entry) → r .action ≡ Set port
+    → applyRule r es ≡ setEntry (record { prefix = r .prefix; length = r .length; port = port }) es
+apply-set r port es h = ap (λ (a : Action). act a (ruleKey r) es) h
+
+-- The loops are at the i-th of the first n entries of an array.
+module _ (n i : ℕ) (es : List Entry) where
+  -- what stands at a place
+  pub present-here : (k : Key) → i < n → n ≤ length es
+      → presentAt i k (take n es) ≡ sameKey (keyOf (getD es i emptyEntry)) k
+  present-here k h f = ap (heads k) (front es n i emptyEntry h f)
+
+  pub present-none : (k : Key) → n ≤ i → presentAt i k (take n es) ≡ false
+  present-none k h = ap (heads k) (back es n i h)
+
+  -- the i-th entry decides where the search for a place goes: on, or no further; past the last it ends
+  place-at : (k : Key) → i < n → n ≤ length es
+      → placeOf k (drop i (take n es))
+      ≡ pick (before (keyOf (getD es i emptyEntry)) k) (suc (placeOf k (drop (i + 1) (take n es)))) 0
+  unfolding placeOf
+  place-at k h f = ap (placeOf k) (front es n i emptyEntry h f) ∙ rw add-one
+
+  pub place-again : (k : Key) → i < n → n ≤ length es → before (keyOf (getD es i emptyEntry)) k ≡ true
+      → placeOf k (take n es) ≡ i + placeOf k (drop i (take n es))
+      → placeOf k (take n es) ≡ i + 1 + placeOf k (drop (i + 1) (take n es))
+  place-again k h f b e =
+      let left : placeOf k (drop i (take n es)) ≡ suc (placeOf k (drop (i + 1) (take n es))) = place-at k h f ∙ rw b in
+      omega arith
+
+  pub place-found : (k : Key) → i < n → n ≤ length es → before (keyOf (getD es i emptyEntry)) k ≡ false
+      → placeOf k (take n es) ≡ i + placeOf k (drop i (take n es)) → i ≡ placeOf k (take n es)
+  place-found k h f b e =
+      let left : placeOf k (drop i (take n es)) ≡ 0 = place-at k h f ∙ rw b in
+      omega arith
+
+  pub place-end : (k : Key) → n ≤ i
+      → placeOf k (take n es) ≡ i + placeOf k (drop i (take n es)) → i ≡ placeOf k (take n es)
+  unfolding placeOf
+  place-end k h e =
+      let left : placeOf k (drop i (take n es)) ≡ 0 = ap (placeOf k) (back es n i h) in
+      omega arith
+
+  -- the search for an entry at the i-th, and past the last
+  pub has-step : (k : Key) → i < n → n ≤ length es
+      → hasEntry k (drop i (take n es))
+      ≡ (sameKey (keyOf (getD es i emptyEntry)) k || hasEntry k (drop (i + 1) (take n es)))
+  unfolding among
+  has-step k h f = ap (hasEntry k) (front es n i emptyEntry h f) ∙ rw add-one
+
+  pub has-end : (k : Key) → n ≤ i → hasEntry k (drop i (take n es)) ≡ false
+  unfolding among
+  has-end k h = ap (hasEntry k) (back es n i h)
+
+  -- the lookup goes from the last entry to the first: where it begins, and a turn
+  pub best-start : (address : ℕ) → n ≤ i → bestOf address (drop i (take n es)) ≡ (Nothing, 0)
+  unfolding bestOf
+  best-start address h = ap (bestOf address) (back es n i h)
+
+  pub best-step : (address : ℕ) → 0 < i → i ≤ n → n ≤ length es
+      → bestOf address (drop (i - 1) (take n es))
+      ≡ better (covers (keyOf (getD es (i - 1) emptyEntry)) address) (getD es (i - 1) emptyEntry)
+      (bestOf address (drop i (take n es)))
+  unfolding bestOf
+  best-step address h k f =
+      let e = getD es (i - 1) emptyEntry in
+      let next : suc (i - 1) ≡ i = omega arith in
+      ap (bestOf address) (front es n (i - 1) emptyEntry (omega arith) f)
+      ∙ ap (λ (j : ℕ). better (covers (keyOf e) address) e (bestOf address (drop j (take n es)))) next

@@ -1,0 +1,53 @@
+-- `empty_from` meets its contract. The loop's invariant: the test of the entries from the count on is that of those
+-- from i on. Assumes nothing.
+use mathlib.Core.Path.{_≡_, sym, _∙_}
+use mathlib.Core.Bool.{_&&_}
+use Prim.Native.Nat.{_+_, _-_, _≤_}
+use native.Mathlib.Omega.{arith}
+use borrow.Author.Needs.{needs}
+use lib.ListN.{length, drop, getD}
+use Rattle.lists.specs.Arrays.{onHead, every}
+use Rattle.lists.proofs.Tails.{tail-step, tail-end, head-at}
+use Rattle.flow.specs.Tables.{emptyEntry, isEmpty}
+use Rattle.flow.proofs.tables.empty_from.Statement.{statement}
+use Rattle.flow.proofs.tables.empty_from.Tie as tie
+
+abbrev Inv-loop : tie.InvT-loop
+Inv-loop count es i₀ i = (i ≤ 64) × (every isEmpty (drop count es) ≡ every isEmpty (drop i es))
+
+abbrev μ-loop : tie.MeasureT-loop
+μ-loop count es i₀ i = 64 - i
+
+long : (c : tie.Start Inv-loop μ-loop) → length (c .args .t1) ≡ 64
+long c = search needs
+
+-- a turn tests the i-th entry, and leaves those from i + 1 on
+turn : (c : tie.In-loop Inv-loop μ-loop)
+    → let a = c .before .before .args in
+    let i = c .before .loop .i in
+    every isEmpty (drop (a .count) (a .t1))
+    ≡ (isEmpty (getD (a .t1) i emptyEntry) && every isEmpty (drop (i + 1) (a .t1)))
+turn c =
+    let es = c .before .before .args .t1 in
+    let i = c .before .loop .i in
+    let full = long (c .before .before) in
+    c .before .loop .inv .1
+    ∙ tail-step (onHead isEmpty) es i (omega arith)
+    ∙ rw (head-at isEmpty es i emptyEntry (omega arith))
+
+loop-again : tie.Need-loop-again Inv-loop μ-loop
+loop-again c = (omega arith, turn (c .before .before .before) ∙ rw (sym (c .before .is-empty .ensures) ∙ c .if1 .taken))
+
+returns : tie.Need-returns Inv-loop μ-loop
+returns c = sym (turn (c .before .before .before) ∙ rw (sym (c .before .is-empty .ensures) ∙ c .if1 .left))
+
+returns-2 : tie.Need-returns-2 Inv-loop μ-loop
+returns-2 c =
+    let s = c .before .before in
+    sym (c .before .loop .inv .1 ∙ tail-end (onHead isEmpty) (s .args .t1) (c .before .loop .i) (omega (arith, long s)))
+
+pub empty-from-spec : {M : Type 1} → statement M
+empty-from-spec =
+    tie.close
+    (tie.spec Inv-loop μ-loop (λ c. search needs) (λ c. search needs) (λ c. search needs) (λ c κs. search needs)
+    (λ c. search needs) (λ c. search needs) loop-again returns returns-2)

@@ -1,0 +1,50 @@
+-- Prefixes with lengths, rules and entries (document 01, "Bytes"). Assumes nothing.
+use Prim.Native.Nat.{ℕ, _-_, _%_, _^_}
+use mathlib.Core.Bool.{Bool, true, false, _&&_, _||_}
+use lib.Dec.{ltb, leb, eqb}
+use Rattle.flow.specs.declared.Action.{Action}
+use Rattle.flow.specs.declared.Action.the-variants.{Remove, Set}
+use Rattle.flow.specs.declared.Rule.{Rule}
+use Rattle.flow.specs.declared.Entry.{Entry}
+
+-- a prefix and its length
+abbrev pub Key : Type 0
+Key = ℕ × ℕ
+
+abbrev pub keyOf : Entry → Key
+keyOf e = (e .prefix, e .length)
+
+abbrev pub ruleKey : Rule → Key
+ruleKey r = (r .prefix, r .length)
+
+-- the number of addresses under a prefix of length l
+abbrev pub sizeOf : ℕ → ℕ
+sizeOf l = 2 ^ (32 - l)
+
+-- a length from 0 to 32, and prefix bits past the length are zero
+abbrev pub prefixOk : Key → Bool
+prefixOk k = leb (k .1) 32 && eqb (k .0 % sizeOf (k .1)) 0
+
+-- a removal, or a port from 1
+abbrev pub portOk : Action → Bool
+portOk Remove = true
+portOk (Set port) = ltb 0 port
+
+abbrev pub wellFormed : Rule → Bool
+wellFormed r = prefixOk (ruleKey r) && portOk (r .action)
+
+-- by rising prefix, then length
+abbrev pub before : Key → Key → Bool
+before a b = ltb (a .0) (b .0) || eqb (a .0) (b .0) && ltb (a .1) (b .1)
+
+abbrev pub sameKey : Key → Key → Bool
+sameKey a b = eqb (a .0) (b .0) && eqb (a .1) (b .1)
+
+abbrev pub sameAction : Action → Action → Bool
+sameAction Remove Remove = true
+sameAction Remove (Set q) = false
+sameAction (Set p) Remove = false
+sameAction (Set p) (Set q) = eqb p q
+
+abbrev pub sameRule : Rule → Rule → Bool
+sameRule a b = sameKey (ruleKey a) (ruleKey b) && sameAction (a .action) (b .action)

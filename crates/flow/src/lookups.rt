@@ -1,0 +1,51 @@
+// The port of the longest entry that covers an address.
+ghost use mathlib.Core.Path.{_≡_};
+ghost use Prim.Native.Nat.{_≤_};
+ghost use lib.ListN.{take};
+ghost use Rattle.flow.specs.Rules.{keyOf};
+ghost use Rattle.flow.specs.Tables.{meaning};
+ghost use Rattle.flow.specs.Lookups.{covers, lookupOf};
+use crate::Entry;
+use crate::Found;
+use crate::Table;
+use crate::rules::size_of;
+use crate::tables::used;
+
+fn does_cover(e: Entry, address: u32) -> bool
+    ensures { λ r. ⌜ r ≡ covers (keyOf e) address ⌝ }
+{
+    let size = size_of(e.length);
+    let a = address as u64;
+    let p = e.prefix as u64;
+    a / size == p / size
+}
+
+// The longest of the first count entries that cover an address, the earlier of equals: from the last to the first.
+fn longest(es: [Entry; 64], count: usize, address: u32) -> Found
+    requires { ⌜ count ≤ 64 ⌝ }
+    ensures { λ r. ⌜ r ≡ lookupOf address (take count es) ⌝ }
+{
+    let mut best = Found::Nothing;
+    let mut length: u8 = 0;
+    let mut i = count;
+    while 0 < i {
+        i -= 1;
+        let e = es[i];
+        if does_cover(e, address) {
+            if length <= e.length {
+                best = Found::Port(e.port);
+                length = e.length;
+            }
+        }
+    }
+    best
+}
+
+// The lookup that forwarding uses: of a table's entries in use, whether or not it obeys its limits.
+pub fn lookup(t: Table, address: u32) -> Found
+    ensures { λ r. ⌜ r ≡ lookupOf address (meaning t) ⌝ }
+{
+    let es = t.entries;
+    let count = used(t);
+    longest(es, count, address)
+}

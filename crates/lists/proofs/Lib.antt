@@ -1,0 +1,5 @@
+pub mod Stores
+pub mod Tails
+pub mod Padding
+pub mod Pigeonhole
+pub mod Numbers

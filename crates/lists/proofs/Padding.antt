@@ -1,0 +1,64 @@
+-- Padded lists. Assumes nothing.
+use mathlib.Core.Path.{_≡_, refl, sym, ap, _∙_}
+use mathlib.Core.List.{List, [], _∷_, _++_}
+use Prim.Native.Nat.{ℕ, zero, suc, _+_, _-_, _≤_, _<_}
+use native.Mathlib.Numerals.{add-one}
+use native.Mathlib.Omega.{arith}
+use lib.ListN.{length, take, set, getD, replicate}
+use lib.Seq.{take-suc, length-take-le}
+use Rattle.lists.specs.Arrays.{pad}
+
+module _ {A : Type 0} where
+  pub pad-length : (n : ℕ) (z : A) (l : List A) → length (pad n z l) ≡ n
+  unfolding pad
+  pad-length zero z l = refl
+  pad-length (suc n) z [] = ap suc (pad-length n z [])
+  pad-length (suc n) z (x ∷ xs) = ap suc (pad-length n z xs)
+
+  pub pad-none : (n : ℕ) (z : A) → pad n z [] ≡ replicate n z
+  unfolding pad
+  pad-none zero z = refl
+  pad-none (suc n) z = ap (λ (l : List A). z ∷ l) (pad-none n z)
+
+  -- what is padded, and what it is padded with
+  pub pad-split : (n : ℕ) (z : A) (l : List A) → length l ≤ n → pad n z l ≡ l ++ replicate (n - length l) z
+  unfolding pad
+  pad-split zero z [] h = refl
+  pad-split zero z (x ∷ xs) h = absurd (omega arith)
+  pad-split (suc n) z [] h =
+      let e : suc n - 0 ≡ suc n = omega arith in
+      rw e (ap (λ (l : List A). z ∷ l) (pad-none n z))
+  pad-split (suc n) z (x ∷ xs) h =
+      let e : suc n - suc (length xs) ≡ n - length xs = omega arith in
+      rw e (ap (λ (l : List A). x ∷ l) (pad-split n z xs (omega arith)))
+
+  pub pad-take : (n : ℕ) (z : A) (l : List A) → length l ≤ n → take (length l) (pad n z l) ≡ l
+  unfolding pad
+  pad-take zero z [] h = refl
+  pad-take zero z (x ∷ xs) h = absurd (omega arith)
+  pad-take (suc n) z [] h = refl
+  pad-take (suc n) z (x ∷ xs) h = ap (λ (l : List A). x ∷ l) (pad-take n z xs (omega arith))
+
+  -- one more, also where there is no place left
+  pub pad-snoc : (n : ℕ) (z : A) (l : List A) (u : A) → set (pad n z l) (length l) u ≡ pad n z (l ++ (u ∷ []))
+  unfolding pad
+  pad-snoc zero z l u = refl
+  pad-snoc (suc n) z [] u = refl
+  pad-snoc (suc n) z (x ∷ xs) u = ap (λ (l : List A). x ∷ l) (pad-snoc n z xs u)
+
+  -- a turn of the loop that stores a list from the front
+  pub pad-step : (n : ℕ) (z : A) (l : List A) (i : ℕ) (d : A) → i < length l
+      → set (pad n z (take i l)) i (getD l i d) ≡ pad n z (take (i + 1) l)
+  pad-step n z l i d h =
+      let e : length (take i l) ≡ i = length-take-le i l (omega arith) in
+      ap (λ (k : ℕ). set (pad n z (take i l)) k (getD l i d)) (sym e)
+      ∙ pad-snoc n z (take i l) (getD l i d)
+      ∙ rw (add-one, take-suc l i d h)
+
+  -- fewer places
+  pub pad-fewer : (k n : ℕ) (z : A) (l : List A) → k ≤ n → take k (pad n z l) ≡ pad k z l
+  unfolding pad
+  pad-fewer zero n z l h = refl
+  pad-fewer (suc k) zero z l h = absurd (omega arith)
+  pad-fewer (suc k) (suc n) z [] h = ap (λ (l : List A). z ∷ l) (pad-fewer k n z [] (omega arith))
+  pad-fewer (suc k) (suc n) z (x ∷ xs) h = ap (λ (l : List A). x ∷ l) (pad-fewer k n z xs (omega arith))

@@ -1,0 +1,101 @@
+-- An array as a list: what a loop that stores from the front has made so far, an element put in and one taken out, and
+-- what is left of the elements in use. Assumes nothing.
+use mathlib.Core.Path.{_≡_, refl, sym, ap, _∙_}
+use mathlib.Core.List.{List, [], _∷_, _++_, append-assoc, append-nil, map}
+use Prim.Native.Nat.{ℕ, zero, suc, _+_, _≤_, _<_}
+use native.Mathlib.Numerals.{add-one}
+use native.Mathlib.Nat.{le-of-suc-le-suc, le-of-lt, not-suc-le-zero}
+use native.Mathlib.Omega.{arith}
+use lib.ListN.{length, take, drop, getD, set, length-take, drop-of-length-le, length-map}
+use lib.Seq.{drop-cons, take-suc, set-at, length-take-le, take-nil, getD-take, take-all}
+
+-- what owning a struct with an array of structs tells of the array's length
+pub length-mapped : (A B : Type 0) (f : A → B) (l : List A) (n : ℕ) → length (map f l) ≡ n → length l ≡ n
+length-mapped A B f l n h = sym (length-map l f) ∙ h
+
+module _ {A : Type 0} where
+  -- e put in at a place, and the element at a place taken out
+  abbrev pub put : ℕ → A → List A → List A
+  put at e es = take at es ++ e ∷ drop at es
+
+  abbrev pub del : ℕ → List A → List A
+  del at es = take at es ++ drop (suc at) es
+
+  -- a store at i, where the first i elements are those of l and the rest those of d
+  pub store : (l d : List A) (i : ℕ) (v z : A) → i < length l → i < length d → getD l i z ≡ v
+      → set (take i l ++ drop i d) i v ≡ take (i + 1) l ++ drop (i + 1) d
+  store l d i v z h k e =
+      rw (
+        drop-cons d i z k,
+        set-at (take i l) (getD d i z) (drop (suc i) d) v i
+            (length-take-le i l (le-of-lt h)),
+        add-one,
+        take-suc l i z h,
+        e,
+        append-assoc,
+      )
+
+  pub store-last : (l d : List A) (i : ℕ) (v z : A) → i ≤ length l → i < length d
+      → set (take i l ++ drop i d) i v ≡ take i l ++ v ∷ drop (suc i) d
+  store-last l d i v z h k =
+      rw (drop-cons d i z k, set-at (take i l) (getD d i z) (drop (suc i) d) v i (length-take-le i l h))
+
+  -- an array that was stored whole
+  pub stored-whole : (l d : List A) (n : ℕ) → length l ≤ n → length d ≤ n → take n l ++ drop n d ≡ l
+  stored-whole l d n h k = rw (take-all n l h, drop-of-length-le d {i = n} k, append-nil)
+
+  -- the first n elements, from i on
+  pub front : (es : List A) (n i : ℕ) (z : A) → i < n → n ≤ length es
+      → drop i (take n es) ≡ getD es i z ∷ drop (suc i) (take n es)
+  front es n i z h k = drop-cons (take n es) i z (simp length-take (omega arith)) ∙ rw (getD-take n es i z h)
+
+  pub back : (es : List A) (n i : ℕ) → n ≤ i → drop i (take n es) ≡ []
+  back es n i h = drop-of-length-le (take n es) {i = i} (simp length-take (omega arith))
+
+  pub put-get : (es : List A) (at i : ℕ) (e z : A) → at ≤ i → getD (put at e es) (suc i) z ≡ getD es i z
+  put-get es zero i e z h = refl
+  put-get [] (suc a) i e z h = refl
+  put-get (x ∷ xs) (suc a) zero e z h = absurd (not-suc-le-zero h)
+  put-get (x ∷ xs) (suc a) (suc j) e z h = put-get xs a j e z (le-of-suc-le-suc h)
+
+  pub put-take : (es : List A) (at n : ℕ) (e : A) → at ≤ n → take (suc n) (put at e es) ≡ put at e (take n es)
+  put-take es zero n e h = refl
+  put-take es (suc a) zero e h = absurd (not-suc-le-zero h)
+  put-take [] (suc a) (suc m) e h = refl
+  put-take (x ∷ xs) (suc a) (suc m) e h = ap (λ (l : List A). x ∷ l) (put-take xs a m e (le-of-suc-le-suc h))
+
+  pub put-length : (es : List A) (at : ℕ) (e : A) → length (put at e es) ≡ suc (length es)
+  put-length es zero e = refl
+  put-length [] (suc a) e = refl
+  put-length (x ∷ xs) (suc a) e = ap suc (put-length xs a e)
+
+  pub put-holds : (es : List A) (at : ℕ) (e : A) → at < length es
+      → set es at e ≡ take (suc at) (put at e es) ++ drop (suc at) es
+  put-holds [] at e h = absurd (not-suc-le-zero h)
+  put-holds (x ∷ xs) zero e h = refl
+  put-holds (x ∷ xs) (suc a) e h = ap (λ (l : List A). x ∷ l) (put-holds xs a e (le-of-suc-le-suc h))
+
+  pub del-get : (es : List A) (at i : ℕ) (z : A) → at ≤ i → getD (del at es) i z ≡ getD es (suc i) z
+  del-get [] zero i z h = refl
+  del-get (x ∷ xs) zero i z h = refl
+  del-get [] (suc a) i z h = refl
+  del-get (x ∷ xs) (suc a) zero z h = absurd (not-suc-le-zero h)
+  del-get (x ∷ xs) (suc a) (suc j) z h = del-get xs a j z (le-of-suc-le-suc h)
+
+  pub del-take : (es : List A) (at n : ℕ) → at ≤ n → take n (del at es) ≡ del at (take (suc n) es)
+  del-take [] zero n h = take-nil n
+  del-take [] (suc a) zero h = refl
+  del-take [] (suc a) (suc n) h = refl
+  del-take (x ∷ xs) zero n h = refl
+  del-take (x ∷ xs) (suc a) zero h = absurd (not-suc-le-zero h)
+  del-take (x ∷ xs) (suc a) (suc m) h = ap (λ (l : List A). x ∷ l) (del-take xs a m (le-of-suc-le-suc h))
+
+  pub del-length : (es : List A) (at : ℕ) → at < length es → suc (length (del at es)) ≡ length es
+  del-length [] at h = absurd (not-suc-le-zero h)
+  del-length (x ∷ xs) zero h = refl
+  del-length (x ∷ xs) (suc a) h = ap suc (del-length xs a (le-of-suc-le-suc h))
+
+  pub del-holds : (es : List A) (at : ℕ) → es ≡ take at (del at es) ++ drop at es
+  del-holds es zero = refl
+  del-holds [] (suc a) = refl
+  del-holds (x ∷ xs) (suc a) = ap (λ (l : List A). x ∷ l) (del-holds xs a)

@@ -1,0 +1,22 @@
+-- Numbers as bytes, the highest first (document 01, "Bytes"; FIPS 180-4, 3.1). Assumes nothing.
+use Prim.Native.Nat.{ℕ, zero, suc, _+_, _*_, _/_, _%_, _^_, _<_}
+use mathlib.Core.List.{List, [], _∷_}
+use lib.ListN.{length, getD, take, drop}
+
+-- the low k bytes of a number
+unfoldable pub be : ℕ → ℕ → List ℕ
+be zero x = []
+be (suc k) x = x / 256 ^ k % 256 ∷ be k x
+
+-- the number that bytes are
+unfoldable pub num : List ℕ → ℕ
+num [] = 0
+num (b ∷ bs) = b * 256 ^ length bs + num bs
+
+-- the number in the k bytes from an offset
+unfoldable pub field : List ℕ → ℕ → ℕ → ℕ
+field s at k = num (take k (drop at s))
+
+-- every element is a byte
+abbrev pub AreBytes : List ℕ → Type 0
+AreBytes s = (i : ℕ) → getD s i 0 < 256

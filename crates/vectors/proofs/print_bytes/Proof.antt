@@ -1,0 +1,20 @@
+-- Every byte is printed, from the front; t3 is the line feed written after them.
+use mathlib.Core.Path.{_≡_}
+use Prim.Native.Nat.{_≤_, _-_}
+use lib.ListN.{length}
+use borrow.Author.Needs.{needs}
+use Rattle.vectors.proofs.print_bytes.Statement.{statement}
+use Rattle.vectors.proofs.print_bytes.Tie as tie
+
+abbrev Inv-loop : tie.InvT-loop
+Inv-loop bytes i₀ t3 i = (i ≤ length bytes) × (length t3 ≡ 1)
+
+abbrev μ-loop : tie.MeasureT-loop
+μ-loop bytes i₀ t3 i = length bytes - i
+
+pub print-bytes-spec : {M : Type 1} → statement M
+print-bytes-spec =
+    tie.close
+    (tie.spec Inv-loop μ-loop (λ c. search needs) (λ c. search needs) (λ c κs. search needs) (λ c κs. search needs)
+    (λ c. search needs) (λ c. search needs) (λ c. search needs) (λ c. search needs) (λ c κs. search needs)
+    (λ c. search needs))
