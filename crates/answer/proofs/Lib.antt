@@ -1,2 +1,3 @@
+-- Laws of tests and of questions, for every crate above.
 pub mod Bools
 pub mod Asked

@@ -1,1 +1,2 @@
+-- What all crates say their answers with.
 pub mod Ask

@@ -1,3 +1,4 @@
+-- Laws of lists, for every crate above.
 pub mod Stores
 pub mod Tails
 pub mod Padding

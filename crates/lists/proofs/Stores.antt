@@ -21,24 +21,15 @@ module _ {A : Type 0} where
   abbrev pub del : ℕ → List A → List A
   del at es = take at es ++ drop (suc at) es
 
-  -- a store at i, where the first i elements are those of l and the rest those of d
-  pub store : (l d : List A) (i : ℕ) (v z : A) → i < length l → i < length d → getD l i z ≡ v
-      → set (take i l ++ drop i d) i v ≡ take (i + 1) l ++ drop (i + 1) d
-  store l d i v z h k e =
-      rw (
-        drop-cons d i z k,
-        set-at (take i l) (getD d i z) (drop (suc i) d) v i
-            (length-take-le i l (le-of-lt h)),
-        add-one,
-        take-suc l i z h,
-        e,
-        append-assoc,
-      )
-
+  -- a store at i, where the first i elements are those of l and the rest those of d; and where v is l's element at i
   pub store-last : (l d : List A) (i : ℕ) (v z : A) → i ≤ length l → i < length d
       → set (take i l ++ drop i d) i v ≡ take i l ++ v ∷ drop (suc i) d
   store-last l d i v z h k =
       rw (drop-cons d i z k, set-at (take i l) (getD d i z) (drop (suc i) d) v i (length-take-le i l h))
+
+  pub store : (l d : List A) (i : ℕ) (v z : A) → i < length l → i < length d → getD l i z ≡ v
+      → set (take i l ++ drop i d) i v ≡ take (i + 1) l ++ drop (i + 1) d
+  store l d i v z h k e = store-last l d i v z (le-of-lt h) k ∙ rw (add-one, take-suc l i z h, e, append-assoc)
 
   -- an array that was stored whole
   pub stored-whole : (l d : List A) (n : ℕ) → length l ≤ n → length d ≤ n → take n l ++ drop n d ≡ l

@@ -18,13 +18,8 @@ words-step m w t x h i e = rw (add-one, take-suc-set, i, e)
 next-take : (w : List ℕ) (t : ℕ) → 16 ≤ t → next (take t w) t ≡ next w t
 unfolding next
 next-take w t h =
-    rw (
-      getD-take t w (t - 2) 0 (omega arith),
-      getD-take t w (t - 7) 0 (omega arith),
-      getD-take t w (t - 15) 0
-          (omega arith),
-      getD-take t w (t - 16) 0 (omega arith),
-    )
+    let front : (n : ℕ) → n < t → getD (take t w) n 0 ≡ getD w n 0 = λ n l. getD-take t w n 0 l in
+    rw (front (t - 2) (omega arith), front (t - 7) (omega arith), front (t - 15) (omega arith), front (t - 16) (omega arith))
 
 pub schedule-step : (m w : List ℕ) (t x : ℕ) → 16 ≤ t → t < length w → take t w ≡ schedule m (t - 16) → x ≡ next w t
     → take (t + 1) (set w t x) ≡ schedule m (t + 1 - 16)

@@ -10,9 +10,8 @@ returns : tie.Need-returns
 returns c =
     let t = c .before .before .before .before .args .t in
     let w = c .before .before .before .before .args .w .now in
-    let four =
-    two-more w t (t + 2) (t + 4) (c .before .before .before .two .ensures) (c .before .before .two2 .ensures)
-    (omega arith) in
+    let first = c .before .before .before .two .ensures in
+    let four = two-more w t (t + 2) (t + 4) first (c .before .before .two2 .ensures) (omega arith) in
     let six = two-more w t (t + 4) (t + 6) four (c .before .two3 .ensures) (omega arith) in
     two-more w t (t + 6) (t + 8) six (c .two4 .ensures) (omega arith)
 
