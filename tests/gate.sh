@@ -1,5 +1,5 @@
 #!/bin/sh
-# The gate tells the truth about its stages: it is run on a small tree with a stand-in for rt that passes, fails, says
+# The gate tells the truth about its stages: it is run on a small tree with a stand-in for rt that passes, fails, tries
 # nothing, or dies, and its last line and exit status are compared with what they should be.
 set -u
 gate=$(pwd)/.ci/run
@@ -7,6 +7,8 @@ tree=${TMPDIR:-/tmp}/gate-test.$$
 trap 'rm -rf "$tree"' EXIT
 mkdir -p "$tree/.ci" "$tree/bin" "$tree/crates/one" "$tree/tests" || exit 1
 cp "$gate" "$tree/.ci/run"
+scratch=$tree
+path=$PATH
 passed=0
 failed=0
 
@@ -18,7 +20,7 @@ rt_does() {
 
 # expect NAME STATUS LINE: runs the gate on the tree. LINE is a pattern: how far a killed stage came may differ.
 expect() {
-    out=$(PATH="$tree/bin:$PATH" TMPDIR="$tree" sh "$tree/.ci/run" 2>&1)
+    out=$(PATH="$tree/bin:$path" TMPDIR="$scratch" sh "$tree/.ci/run" 2>&1)
     status=$?
     last=$(echo "$out" | tail -n 1)
     tallies=$(echo "$out" | grep -cE '^[0-9]+ passed, [0-9]+ failed')
@@ -45,23 +47,36 @@ rt_does true 'echo "7 passed, 0 failed"; exit 3'
 expect 'rt ends with a status after a good tally' 1 '9 passed, 1 failed'
 rt_does true 'echo "0 passed, 0 failed"'
 expect 'rt tries nothing' 1 '2 passed, 1 failed'
+rt_does true 'echo "rt: ok"'
+expect 'rt ends well and counts nothing' 1 '2 passed, 1 failed'
 rt_does true 'echo "5 passed, 0 failed"; kill -KILL $$'
 expect 'rt is killed' 1 '* passed, 1 failed'
 rt_does true 'kill -TERM $PPID; sleep 1; '"$good"
 expect 'the stage is killed' 1 '* passed, 1 failed'
+rt_does true 'kill -TERM $(ps -o ppid= -p $PPID); '"$good"
+expect 'the gate is killed' 1 '2 passed, 1 failed'
 rt_does true "$good"
 mkdir "$tree/crates/two"
 expect 'a crate is not listed' 1 '8 passed, 1 failed'
 rmdir "$tree/crates/two"
-echo 'exit 0' >"$tree/tests/fine.sh"
 echo 'echo "4 passed, 0 failed"' >"$tree/tests/four.sh"
-expect 'scripts pass' 0 '14 passed, 0 failed'
+expect 'a script passes' 0 '13 passed, 0 failed'
 echo 'echo "3 passed, 1 failed"' >"$tree/tests/four.sh"
-expect 'a script counts a failure and exits well' 1 '13 passed, 1 failed'
+expect 'a script counts a failure and exits well' 1 '12 passed, 1 failed'
+echo 'exit 0' >"$tree/tests/four.sh"
+expect 'a script counts nothing' 1 '9 passed, 1 failed'
 echo 'exit 2' >"$tree/tests/four.sh"
-expect 'a script fails' 1 '10 passed, 1 failed'
-rm "$tree/bin/rt" "$tree/tests/"*.sh
-PATH=/usr/bin:/bin expect 'the kit is missing' 1 '1 passed, 2 failed'
+expect 'a script fails' 1 '9 passed, 1 failed'
+rm "$tree/tests/"*.sh
+scratch=$tree/nowhere
+expect 'there is no place for its files' 1 '0 passed, 1 failed'
+scratch=$tree
+rm "$tree/bin/rt"
+for tool in cat dirname grep mkdir rm sed sh tail tee; do
+    ln -s "$(command -v $tool)" "$tree/bin/$tool"
+done
+path=$tree/bin
+expect 'the kit is missing' 1 '1 passed, 2 failed'
 
 echo "$passed passed, $failed failed"
 [ "$failed" -eq 0 ]
