@@ -3,7 +3,7 @@ use Prim.Native.Nat.{ℕ, zero, suc}
 use mathlib.Core.Bool.{Bool, true, _&&_}
 use mathlib.Core.List.{List, [], _∷_}
 
--- an array of n places that begins with l and has z in the places past it
+-- an array of n places that begins with l, as far as it has room, and has z in the places past it
 unfoldable pub pad : {A : Type 0} → ℕ → A → List A → List A
 pad zero z l = []
 pad (suc n) z [] = z ∷ pad n z []

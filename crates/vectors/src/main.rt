@@ -55,8 +55,9 @@ fn print_both(key: &[u8], m: &[u8]) {
     print_tag(key, m);
 }
 
-fn print_match(key: &[u8], m: &[u8], t: &[u8]) {
-    if tag::matches(key, m, t) {
+// Whether t is the tag of case 5.
+fn print_case_5(t: &[u8]) {
+    if tag::matches(&[0x0cu8; 20], b"Test With Truncation", t) {
         io::write_all(STDOUT_FILENO, b"matches\n");
     } else {
         io::write_all(STDOUT_FILENO, b"does not match\n");
@@ -89,34 +90,9 @@ fn macs() {
     print_both(&[0x0bu8; 20], b"Hi There");
     print_both(b"Jefe", b"what do ya want for nothing?");
     print_both(&[0xaau8; 20], &[0xddu8; 50]);
-    let counting: [u8; 25] = [
-        1,
-        2,
-        3,
-        4,
-        5,
-        6,
-        7,
-        8,
-        9,
-        10,
-        11,
-        12,
-        13,
-        14,
-        15,
-        16,
-        17,
-        18,
-        19,
-        20,
-        21,
-        22,
-        23,
-        24,
-        25,
-    ];
-    print_both(&counting, &[0xcdu8; 50]);
+    let counting =
+        b"\x01\x02\x03\x04\x05\x06\x07\x08\x09\x0a\x0b\x0c\x0d\x0e\x0f\x10\x11\x12\x13\x14\x15\x16\x17\x18\x19";
+    print_both(counting, &[0xcdu8; 50]);
     print_tag(&[0x0cu8; 20], b"Test With Truncation");
     print_both(
         &[0xaau8; 131],
@@ -128,55 +104,13 @@ fn macs() {
     );
 }
 
-// Case 5's tag, and four that differ from it: in the first byte, in the last bit, by a byte missing and by one more.
+// Case 5's tag, and four that differ from it: in the first bit, in the last bit, by a byte missing and by one more.
 fn comparisons() {
-    let right: [u8; 16] = [
-        0xa3,
-        0xb6,
-        0x16,
-        0x74,
-        0x73,
-        0x10,
-        0x0e,
-        0xe0,
-        0x6e,
-        0x0c,
-        0x79,
-        0x6c,
-        0x29,
-        0x55,
-        0x55,
-        0x2b,
-    ];
-    let key = [0x0cu8; 20];
-    print_match(&key, b"Test With Truncation", &right);
-    let mut first = right;
-    first[0] = 0x23;
-    print_match(&key, b"Test With Truncation", &first);
-    let mut last = right;
-    last[15] = 0x2a;
-    print_match(&key, b"Test With Truncation", &last);
-    print_match(&key, b"Test With Truncation", &right[..15]);
-    let long: [u8; 17] = [
-        0xa3,
-        0xb6,
-        0x16,
-        0x74,
-        0x73,
-        0x10,
-        0x0e,
-        0xe0,
-        0x6e,
-        0x0c,
-        0x79,
-        0x6c,
-        0x29,
-        0x55,
-        0x55,
-        0x2b,
-        0xf8,
-    ];
-    print_match(&key, b"Test With Truncation", &long);
+    print_case_5(b"\xa3\xb6\x16\x74\x73\x10\x0e\xe0\x6e\x0c\x79\x6c\x29\x55\x55\x2b");
+    print_case_5(b"\x23\xb6\x16\x74\x73\x10\x0e\xe0\x6e\x0c\x79\x6c\x29\x55\x55\x2b");
+    print_case_5(b"\xa3\xb6\x16\x74\x73\x10\x0e\xe0\x6e\x0c\x79\x6c\x29\x55\x55\x2a");
+    print_case_5(b"\xa3\xb6\x16\x74\x73\x10\x0e\xe0\x6e\x0c\x79\x6c\x29\x55\x55");
+    print_case_5(b"\xa3\xb6\x16\x74\x73\x10\x0e\xe0\x6e\x0c\x79\x6c\x29\x55\x55\x2b\xfa");
 }
 
 fn main() {
