@@ -16,7 +16,8 @@ use Rattle.lists.proofs.Padding.{pad-split}
 use Rattle.lists.proofs.Tails.{every-replicate}
 use Rattle.flow.specs.Rules.{Key, keyOf}
 use Rattle.flow.specs.Tables.{emptyEntry, isEmpty, meaning, tableOf, headOk, tableOk}
-use Rattle.flow.specs.Changes.{placeOf, presentAt, setAt, dropAt, setEntry, dropEntry}
+use Rattle.flow.specs.Changes.{placeOf, presentAt, setEntry, dropEntry}
+use Rattle.lists.specs.Arrays.{put, del}
 use Rattle.flow.specs.declared.Entry.{Entry}
 use Rattle.flow.specs.declared.Table.{Table}
 use Rattle.flow.proofs.Places.{present-lt, set-law, drop-law}
@@ -46,10 +47,10 @@ module _ (t : Table) (long : length (t .entries) ≡ 64) (padded : t ≡ tableOf
   -- the entry at the place of its key taken out
   pub removed-table : (k : Key) (at : ℕ) (out : List Entry) → at ≡ placeOf k (meaning t)
       → presentAt at k (meaning t) ≡ true
-      → out ≡ dropAt at (meaning t) ++ emptyEntry ∷ drop (t .count) (t .entries)
+      → out ≡ del at (meaning t) ++ emptyEntry ∷ drop (t .count) (t .entries)
       → _≡_ {A = Table} (record { entries = out; count = t .count - 1 }) (tableOf (dropEntry k (meaning t)))
   removed-table k at out place here o =
-      let es = dropAt at (meaning t) in
+      let es = del at (meaning t) in
       let dropped : dropEntry k (meaning t) ≡ es = rw (drop-law k (meaning t), ← place, here) in
       let less : suc (length es) ≡ t .count =
       del-length (meaning t) at (present-lt k at (meaning t) here) ∙ count-is in
@@ -85,10 +86,10 @@ module _ (t : Table) (long : length (t .entries) ≡ 64) (padded : t ≡ tableOf
 
   pub inserted-table : (e : Entry) (at : ℕ) (out : List Entry) → at ≡ placeOf (keyOf e) (meaning t)
       → presentAt at (keyOf e) (meaning t) ≡ false → t .count < 64
-      → out ≡ setAt at e (meaning t) ++ drop (t .count + 1) (t .entries)
+      → out ≡ put at e (meaning t) ++ drop (t .count + 1) (t .entries)
       → _≡_ {A = Table} (record { entries = out; count = t .count + 1 }) (tableOf (setEntry e (meaning t)))
   inserted-table e at out place absent room o =
-      let es = setAt at e (meaning t) in
+      let es = put at e (meaning t) in
       let new : setEntry e (meaning t) ≡ es = rw (set-law e (meaning t), ← place, absent) in
       let more : length es ≡ t .count + 1 = put-length (meaning t) at e ∙ omega (arith, count-is) in
       let free : 64 - t .count ≡ suc (64 - (t .count + 1)) = omega arith in

@@ -15,7 +15,8 @@ use Rattle.lists.proofs.Stores.{front, back}
 use Rattle.flow.specs.Rules.{Key, keyOf, ruleKey, before, sameKey}
 use Rattle.flow.specs.Tables.{emptyEntry}
 use Rattle.flow.specs.Changes.{setEntry, dropEntry, act, applyRule, hasEntry}
-use Rattle.flow.specs.Changes.{placeOf, heads, presentAt, setAt, dropAt}
+use Rattle.flow.specs.Changes.{placeOf, heads, presentAt}
+use Rattle.lists.specs.Arrays.{put, del}
 use Rattle.flow.specs.Lookups.{covers, better, bestOf}
 use Rattle.flow.specs.declared.Action.{Action}
 use Rattle.flow.specs.declared.Action.the-variants.{Remove, Set}
@@ -38,26 +39,26 @@ present-lt k (suc at) (f ∷ fs) e = suc-le-suc (present-lt k at fs e)
 -- an entry set takes the place of the one with its key, or is put in there
 pub set-law : (e : Entry) (es : List Entry)
     → setEntry e es ≡ pick (presentAt (placeOf (keyOf e) es) (keyOf e) es) (set es (placeOf (keyOf e) es) e)
-    (setAt (placeOf (keyOf e) es) e es)
+    (put (placeOf (keyOf e) es) e es)
 unfolding placeOf setEntry
 set-law e [] = refl
 set-law e (f ∷ fs) =
     let at = placeOf (keyOf e) fs in
     by-bool (before (keyOf f) (keyOf e))
     (λ b. rw b (ap (λ (l : List Entry). f ∷ l) (set-law e fs)
-    ∙ sym (pick-ap (λ (l : List Entry). f ∷ l) (presentAt at (keyOf e) fs) (set fs at e) (setAt at e fs))))
+    ∙ sym (pick-ap (λ (l : List Entry). f ∷ l) (presentAt at (keyOf e) fs) (set fs at e) (put at e fs))))
     (λ b. rw b)
 
 -- an entry removed is the one at the place of its key, if it stands there
 pub drop-law : (k : Key) (es : List Entry)
-    → dropEntry k es ≡ pick (presentAt (placeOf k es) k es) (dropAt (placeOf k es) es) es
+    → dropEntry k es ≡ pick (presentAt (placeOf k es) k es) (del (placeOf k es) es) es
 unfolding placeOf dropEntry
 drop-law k [] = refl
 drop-law k (f ∷ fs) =
     let at = placeOf k fs in
     by-bool (before (keyOf f) k)
     (λ b. rw b (ap (λ (l : List Entry). f ∷ l) (drop-law k fs)
-    ∙ sym (pick-ap (λ (l : List Entry). f ∷ l) (presentAt at k fs) (dropAt at fs) fs)))
+    ∙ sym (pick-ap (λ (l : List Entry). f ∷ l) (presentAt at k fs) (del at fs) fs)))
     (λ b. rw b)
 
 -- what a rule does, by its action

@@ -1,8 +1,8 @@
 -- What a rule does to a flow table, and room for it (document 01, "Bytes" and question 19). Assumes nothing.
 use Prim.Native.Nat.{ℕ, suc}
 use mathlib.Core.Bool.{Bool, true, false, _||_}
-use mathlib.Core.List.{List, [], _∷_, _++_, map}
-use lib.ListN.{length, take, drop}
+use mathlib.Core.List.{List, [], _∷_, map}
+use lib.ListN.{length, drop}
 use lib.Dec.{ltb}
 use Rattle.answer.specs.Ask.{pick, reply, firstNo}
 use Rattle.lists.specs.Kinds.{among}
@@ -63,8 +63,7 @@ applyTo t r =
     (λ k. record { answer = k; table = t })
     (record { answer = 1; table = changed r t })
 
--- The rest is what the functions below apply say: the place of a key in the order, and the entries with one put in at a
--- place or taken out.
+-- The rest is what the functions below apply say: the place of a key in the order, and whether its entry stands there.
 
 -- how many entries stand before a key
 unfoldable pub placeOf : Key → List Entry → ℕ
@@ -78,9 +77,3 @@ heads k (e ∷ es) = sameKey (keyOf e) k
 
 abbrev pub presentAt : ℕ → Key → List Entry → Bool
 presentAt at k es = heads k (drop at es)
-
-abbrev pub setAt : ℕ → Entry → List Entry → List Entry
-setAt at e es = take at es ++ e ∷ drop at es
-
-abbrev pub dropAt : ℕ → List Entry → List Entry
-dropAt at es = take at es ++ drop (suc at) es

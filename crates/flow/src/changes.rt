@@ -5,7 +5,8 @@ ghost use Prim.Native.Nat.{_+_, _≤_, _<_};
 ghost use lib.ListN.{length, take, drop};
 ghost use Rattle.flow.specs.Tables.{emptyEntry, meaning, tableOf};
 ghost use Rattle.flow.specs.Changes.{setEntry, dropEntry, applyRule, changed, hasEntry, roomFor};
-ghost use Rattle.flow.specs.Changes.{roomAnswer, applyTo, placeOf, presentAt, setAt, dropAt};
+ghost use Rattle.flow.specs.Changes.{roomAnswer, applyTo, placeOf, presentAt};
+ghost use Rattle.lists.specs.Arrays.{put, del};
 use crate::Action;
 use crate::Applied;
 use crate::Entry;
@@ -50,7 +51,7 @@ fn present(es: [Entry; 64], count: usize, at: usize, p: u32, l: u8) -> bool
 // The entries with e at a place, those from there on moved up by one.
 fn inserted(es: [Entry; 64], count: usize, at: usize, e: Entry) -> [Entry; 64]
     requires { ⌜ (at ≤ count) × (count < 64) ⌝ }
-    ensures { λ r. ⌜ r ≡ setAt at e (take count es) ++ drop (count + 1) es ⌝ }
+    ensures { λ r. ⌜ r ≡ put at e (take count es) ++ drop (count + 1) es ⌝ }
 {
     let mut out = es;
     out[at] = e;
@@ -66,7 +67,7 @@ fn inserted(es: [Entry; 64], count: usize, at: usize, e: Entry) -> [Entry; 64]
 // The entries without the one at a place, those after it moved down by one.
 fn removed(es: [Entry; 64], count: usize, at: usize) -> [Entry; 64]
     requires { ⌜ (at < count) × (count ≤ 64) ⌝ }
-    ensures { λ r. ⌜ r ≡ dropAt at (take count es) ++ emptyEntry ∷ drop count es ⌝ }
+    ensures { λ r. ⌜ r ≡ del at (take count es) ++ emptyEntry ∷ drop count es ⌝ }
 {
     let mut out = es;
     let mut i = at;

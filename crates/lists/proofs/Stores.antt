@@ -8,19 +8,13 @@ use native.Mathlib.Nat.{le-of-suc-le-suc, le-of-lt, not-suc-le-zero}
 use native.Mathlib.Omega.{arith}
 use lib.ListN.{length, take, drop, getD, set, length-take, drop-of-length-le, length-map}
 use lib.Seq.{drop-cons, take-suc, set-at, length-take-le, take-nil, getD-take, take-all}
+use Rattle.lists.specs.Arrays.{put, del}
 
 -- what owning a struct with an array of structs tells of the array's length
 pub length-mapped : (A B : Type 0) (f : A → B) (l : List A) (n : ℕ) → length (map f l) ≡ n → length l ≡ n
 length-mapped A B f l n h = sym (length-map l f) ∙ h
 
 module _ {A : Type 0} where
-  -- e put in at a place, and the element at a place taken out
-  abbrev pub put : ℕ → A → List A → List A
-  put at e es = take at es ++ e ∷ drop at es
-
-  abbrev pub del : ℕ → List A → List A
-  del at es = take at es ++ drop (suc at) es
-
   -- a store at i, where the first i elements are those of l and the rest those of d; and where v is l's element at i
   pub store-last : (l d : List A) (i : ℕ) (v z : A) → i ≤ length l → i < length d
       → set (take i l ++ drop i d) i v ≡ take i l ++ v ∷ drop (suc i) d

@@ -1,7 +1,7 @@
 // Prints SHA-256, HMAC and tags of messages whose right values are known, for comparison with the file stdout.
-// The values there come from RFC 4231, 4.2 to 4.8 (HMAC and tags; of case 5 the RFC gives the first 16 bytes only),
-// from the examples of FIPS 180-4 ("abc" and the 56 bytes after it), and, for messages of one letter at the edges of
-// the padding, from OpenSSL 3 through Python's hashlib, which agrees with the others too.
+// The HMACs and tags are those of RFC 4231, 4.2 to 4.8 (of case 5 the first 16 bytes, as the RFC has it), the first two
+// digests those of FIPS 180-4's examples. Each of them, and the digests at the edges of the padding, was computed anew
+// with OpenSSL 3 through Python's hashlib when the file was written, and is the same there.
 use libc::STDOUT_FILENO;
 
 fn wide(b: u8) -> u64 {

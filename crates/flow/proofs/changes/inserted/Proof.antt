@@ -10,14 +10,14 @@ use lib.ListN.{length, take, drop, getD, set}
 use lib.Seq.{getD-set-same}
 use Rattle.lists.proofs.Stores.{store, put-get, put-take, put-length, put-holds}
 use Rattle.flow.specs.Tables.{emptyEntry}
-use Rattle.flow.specs.Changes.{setAt}
+use Rattle.lists.specs.Arrays.{put}
 use Rattle.flow.proofs.changes.inserted.Statement.{statement}
 use Rattle.flow.proofs.changes.inserted.Tie as tie
 
 -- e is what stands at its place where the loop begins
 abbrev Inv-loop : tie.InvT-loop
 Inv-loop count at es out₀ i₀ out i =
-    (at ≤ i) × (i ≤ count) × (out ≡ take (i + 1) (setAt at (getD out₀ at emptyEntry) es) ++ drop (i + 1) es)
+    (at ≤ i) × (i ≤ count) × (out ≡ take (i + 1) (put at (getD out₀ at emptyEntry) es) ++ drop (i + 1) es)
 
 abbrev μ-loop : tie.MeasureT-loop
 μ-loop count at es out₀ i₀ out i = count - i
@@ -42,10 +42,10 @@ loop-again c =
     let i = c .before .before .loop .i in
     let full = long (c .before .before .before) in
     let e = getD (set (a .t1) (a .at) (a .e)) (a .at) emptyEntry in
-    let h : i + 1 < length (setAt (a .at) e (a .t1)) = rw (put-length (a .t1) (a .at) e) (omega arith) in
-    let moved : getD (setAt (a .at) e (a .t1)) (i + 1) emptyEntry ≡ getD (a .t1) i emptyEntry =
+    let h : i + 1 < length (put (a .at) e (a .t1)) = rw (put-length (a .t1) (a .at) e) (omega arith) in
+    let moved : getD (put (a .at) e (a .t1)) (i + 1) emptyEntry ≡ getD (a .t1) i emptyEntry =
     rw add-one (put-get (a .t1) (a .at) i e emptyEntry (omega arith)) in
-    let step = store (setAt (a .at) e (a .t1)) (a .t1) (i + 1) _ emptyEntry h (omega arith) moved in
+    let step = store (put (a .at) e (a .t1)) (a .t1) (i + 1) _ emptyEntry h (omega arith) moved in
     (omega arith, omega arith, rw (c .before .before .loop .inv .2) step)
 
 returns : tie.Need-returns Inv-loop μ-loop

@@ -9,12 +9,12 @@ use borrow.Author.Needs.{needs}
 use lib.ListN.{length, take, drop, getD}
 use Rattle.lists.proofs.Stores.{store, store-last, del-get, del-take, del-length, del-holds}
 use Rattle.flow.specs.Tables.{emptyEntry}
-use Rattle.flow.specs.Changes.{dropAt}
+use Rattle.lists.specs.Arrays.{del}
 use Rattle.flow.proofs.changes.removed.Statement.{statement}
 use Rattle.flow.proofs.changes.removed.Tie as tie
 
 abbrev Inv-loop : tie.InvT-loop
-Inv-loop count at es out₀ i₀ out i = (at ≤ i) × (i < count) × (out ≡ take i (dropAt at es) ++ drop i es)
+Inv-loop count at es out₀ i₀ out i = (at ≤ i) × (i < count) × (out ≡ take i (del at es) ++ drop i es)
 
 abbrev μ-loop : tie.MeasureT-loop
 μ-loop count at es out₀ i₀ out i = count - i
@@ -27,10 +27,10 @@ loop-again c =
     let a = c .before .before .before .args in
     let i = c .before .before .loop .i in
     let long : length (a .t1) ≡ 64 = search needs in
-    let h : i < length (dropAt (a .at) (a .t1)) = omega (arith, del-length (a .t1) (a .at) (omega arith)) in
-    let moved : getD (dropAt (a .at) (a .t1)) i emptyEntry ≡ getD (a .t1) (i + 1) emptyEntry =
+    let h : i < length (del (a .at) (a .t1)) = omega (arith, del-length (a .t1) (a .at) (omega arith)) in
+    let moved : getD (del (a .at) (a .t1)) i emptyEntry ≡ getD (a .t1) (i + 1) emptyEntry =
     rw add-one (del-get (a .t1) (a .at) i emptyEntry (omega arith)) in
-    let step = store (dropAt (a .at) (a .t1)) (a .t1) i _ emptyEntry h (omega arith) moved in
+    let step = store (del (a .at) (a .t1)) (a .t1) i _ emptyEntry h (omega arith) moved in
     (omega arith, omega arith, rw (c .before .before .loop .inv .2) step)
 
 returns : tie.Need-returns Inv-loop μ-loop
@@ -38,9 +38,9 @@ returns c =
     let a = c .before .before .args in
     let i = c .before .loop .i in
     let long : length (a .t1) ≡ 64 = search needs in
-    let h : i ≤ length (dropAt (a .at) (a .t1)) = omega (arith, del-length (a .t1) (a .at) (omega arith)) in
+    let h : i ≤ length (del (a .at) (a .t1)) = omega (arith, del-length (a .t1) (a .at) (omega arith)) in
     let end : a .count ≡ suc i = omega arith in
-    let last = store-last (dropAt (a .at) (a .t1)) (a .t1) i emptyEntry emptyEntry h (omega arith) in
+    let last = store-last (del (a .at) (a .t1)) (a .t1) i emptyEntry emptyEntry h (omega arith) in
     rw (c .before .loop .inv .2, last, del-take (a .t1) (a .at) i (omega arith), end)
 
 pub removed-spec : {M : Type 1} → statement M

@@ -20,17 +20,16 @@ abbrev μ-loop : tie.MeasureT-loop
 
 loop-holds : tie.Need-loop-holds Inv-loop μ-loop
 loop-holds c =
-    let none = count-first (c .args .b) (c .args .n * 8 % 2 ^ 64) (search needs) in
+    let none = count-first (c .args .b) _ (search needs) in
     (search needs, search needs, search needs, search needs, omega arith, none)
 
 loop-again : tie.Need-loop-again Inv-loop μ-loop
 loop-again c =
     let loop = c .before .loop in
     let a = c .before .before .args in
-    let count = a .n * 8 % 2 ^ 64 in
-    let byte = count-byte (a .b) (loop .r) count (loop .bits) (loop .i) (omega arith) (omega arith) (loop .inv .4)
+    let byte = count-byte (a .b) (loop .r) _ (loop .bits) (loop .i) (omega arith) (omega arith) (loop .inv .4)
     (omega arith) (loop .inv .5) in
-    let rest = count-rest (a .b) (loop .r) count (loop .bits) (loop .i) (omega arith) (omega arith) (loop .inv .4) in
+    let rest = count-rest (a .b) (loop .r) _ (loop .bits) (loop .i) (omega arith) (omega arith) (loop .inv .4) in
     (omega arith, omega arith, search needs, search needs, rest, byte)
 
 returns : tie.Need-returns Inv-loop μ-loop
