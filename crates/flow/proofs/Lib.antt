@@ -1,5 +1,6 @@
 -- Laws of flow tables. Places and Padded are for this crate's own functions.
 pub mod Order
+pub mod Actions
 pub mod Acts
 pub mod Kept
 pub mod Keys

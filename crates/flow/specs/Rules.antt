@@ -2,6 +2,7 @@
 use Prim.Native.Nat.{ℕ, _-_, _%_, _^_}
 use mathlib.Core.Bool.{Bool, true, false, _&&_, _||_}
 use lib.Dec.{ltb, leb, eqb}
+use Rattle.answer.specs.Ask.{pick}
 use Rattle.flow.specs.declared.Action.{Action}
 use Rattle.flow.specs.declared.Action.the-variants.{Remove, Set}
 use Rattle.flow.specs.declared.Rule.{Rule}
@@ -48,3 +49,14 @@ sameAction (Set p) (Set q) = eqb p q
 
 abbrev pub sameRule : Rule → Rule → Bool
 sameRule a b = sameKey (ruleKey a) (ruleKey b) && sameAction (a .action) (b .action)
+
+-- the port that an action has in bytes, and the action of a port: port 0 removes
+abbrev pub portOf : Action → ℕ
+portOf Remove = 0
+portOf (Set port) = port
+
+abbrev pub actionOf : ℕ → Action
+actionOf port = pick (eqb port 0) Remove (Set port)
+
+abbrev pub ruleOf : ℕ → ℕ → ℕ → Rule
+ruleOf prefix length port = record { prefix = prefix; length = length; action = actionOf port }

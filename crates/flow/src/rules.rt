@@ -1,6 +1,7 @@
 // Prefixes with lengths, and rules.
 ghost use mathlib.Core.Path.{_≡_};
 ghost use Rattle.flow.specs.Rules.{sizeOf, prefixOk, portOk, wellFormed, before, sameKey, sameAction, sameRule};
+ghost use Rattle.flow.specs.Rules.{portOf, actionOf, ruleOf};
 use crate::Action;
 use crate::Rule;
 
@@ -27,7 +28,8 @@ pub(crate) fn prefix_ok(prefix: u32, length: u8) -> bool
     p % size == 0
 }
 
-fn port_ok(action: Action) -> bool
+// Whether an action is a removal, or sets a port above 0.
+pub fn port_ok(action: Action) -> bool
     ensures { λ r. ⌜ r ≡ portOk action ⌝ }
 {
     match action {
@@ -92,5 +94,37 @@ pub fn same_rule(a: Rule, b: Rule) -> bool
         same_action(x, y)
     } else {
         false
+    }
+}
+
+// The port of an action in bytes.
+pub fn port_of(action: Action) -> u16
+    ensures { λ r. ⌜ r ≡ portOf action ⌝ }
+{
+    match action {
+        Action::Remove => 0,
+        Action::Set(port) => port,
+    }
+}
+
+fn action_of(port: u16) -> Action
+    ensures { λ r. ⌜ r ≡ actionOf port ⌝ }
+{
+    if port == 0 {
+        Action::Remove
+    } else {
+        Action::Set(port)
+    }
+}
+
+// The rule that the fields of a share or of a playbook's change are.
+pub fn rule_of(prefix: u32, length: u8, port: u16) -> Rule
+    ensures { λ r. ⌜ r ≡ ruleOf prefix length port ⌝ }
+{
+    let action = action_of(port);
+    Rule {
+        prefix: prefix,
+        length: length,
+        action: action,
     }
 }

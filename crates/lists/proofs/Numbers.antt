@@ -149,3 +149,25 @@ pub get4 : (s : List ℕ) (at : ℕ) {x y : ℕ} → at + 4 ≤ length s → x �
 get4 s at h e f =
     let g : field s at 4 ≡ field s at 2 * 65536 + field s (at + 2) 2 = field-add s at 2 2 (omega arith) in
     ap₂ (λ (x y : ℕ). x * 65536 + y) e f ∙ sym g
+
+-- a number from two bytes, and from four as two halves
+pub num-two : (a b : ℕ) → a * 256 + b ≡ num (a ∷ b ∷ [])
+unfolding num
+num-two a b = omega arith
+
+pub num-four : (a b c d : ℕ) {x y : ℕ} → x ≡ num (a ∷ b ∷ []) → y ≡ num (c ∷ d ∷ [])
+    → x * 65536 + y ≡ num (a ∷ b ∷ c ∷ d ∷ [])
+num-four a b c d e f = ap₂ (λ (x y : ℕ). x * 65536 + y) e f ∙ sym (num-append (a ∷ b ∷ []) (c ∷ d ∷ []))
+
+-- a field as its bytes
+pub field-two : (s : List ℕ) (at : ℕ) → at + 2 ≤ length s → num (getD s at 0 ∷ getD s (at + 1) 0 ∷ []) ≡ field s at 2
+field-two s at h = sym (num-two (getD s at 0) (getD s (at + 1) 0)) ∙ get2 s at h
+
+pub field-four : (s : List ℕ) (at : ℕ) → at + 4 ≤ length s
+    → num (getD s at 0 ∷ getD s (at + 1) 0 ∷ getD s (at + 2) 0 ∷ getD s (at + 3) 0 ∷ []) ≡ field s at 4
+field-four s at h =
+    let i : at + 2 + 1 ≡ at + 3 = omega arith in
+    let l : num (getD s (at + 2) 0 ∷ getD s (at + 3) 0 ∷ []) ≡ field s (at + 2) 2 =
+    ap (λ (j : ℕ). num (getD s (at + 2) 0 ∷ getD s j 0 ∷ [])) (sym i) ∙ field-two s (at + 2) (omega arith) in
+    sym (num-four (getD s at 0) (getD s (at + 1) 0) (getD s (at + 2) 0) (getD s (at + 3) 0) refl refl)
+    ∙ get4 s at h (field-two s at (omega arith)) l

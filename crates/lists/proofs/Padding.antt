@@ -62,3 +62,18 @@ module _ {A : Type 0} where
   pad-fewer (suc k) zero z l h = absurd (omega arith)
   pad-fewer (suc k) (suc n) z [] h = ap (λ (l : List A). z ∷ l) (pad-fewer k n z [] (omega arith))
   pad-fewer (suc k) (suc n) z (x ∷ xs) h = ap (λ (l : List A). x ∷ l) (pad-fewer k n z xs (omega arith))
+
+  -- a place that is in use, read and stored
+  pub pad-get : (n : ℕ) (z : A) (l : List A) (i : ℕ) (d : A) → i < length l → i < n → getD (pad n z l) i d ≡ getD l i d
+  unfolding pad
+  pad-get zero z l i d h k = absurd (omega arith)
+  pad-get (suc n) z [] i d h k = absurd (omega arith)
+  pad-get (suc n) z (x ∷ xs) zero d h k = refl
+  pad-get (suc n) z (x ∷ xs) (suc i) d h k = pad-get n z xs i d (omega arith) (omega arith)
+
+  pub pad-set : (n : ℕ) (z : A) (l : List A) (i : ℕ) (u : A) → i < length l → set (pad n z l) i u ≡ pad n z (set l i u)
+  unfolding pad
+  pad-set zero z l i u h = refl
+  pad-set (suc n) z [] i u h = absurd (omega arith)
+  pad-set (suc n) z (x ∷ xs) zero u h = refl
+  pad-set (suc n) z (x ∷ xs) (suc i) u h = ap (λ (l : List A). x ∷ l) (pad-set n z xs i u (omega arith))

@@ -1,2 +1,19 @@
-// Definitions and laws of lists, with no code: arrays with a count as lists, tests of every element, different members,
-// and numbers as bytes. The crates above cite specs/ in their contracts and proofs/ in their proofs.
+// Definitions and laws of lists: arrays with a count as lists, tests of every element, different members, and numbers as
+// bytes. The crates above cite specs/ in their contracts and proofs/ in their proofs. The only code makes numbers of bytes.
+ghost use mathlib.Core.Path.{_≡_};
+ghost use mathlib.Core.List.{[], _∷_};
+ghost use Rattle.lists.specs.Bytes.{num};
+
+// The number of two bytes, the higher first.
+pub fn u16_of(a: u8, b: u8) -> u16
+    ensures { λ r. ⌜ r ≡ num (a ∷ b ∷ []) ⌝ }
+{
+    (a as u16) * 256 + (b as u16)
+}
+
+// The number of four bytes, the highest first.
+pub fn u32_of(a: u8, b: u8, c: u8, d: u8) -> u32
+    ensures { λ r. ⌜ r ≡ num (a ∷ b ∷ c ∷ d ∷ []) ⌝ }
+{
+    (u16_of(a, b) as u32) * 65536 + (u16_of(c, d) as u32)
+}
