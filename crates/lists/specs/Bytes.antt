@@ -17,6 +17,10 @@ num (b ∷ bs) = b * 256 ^ length bs + num bs
 unfoldable pub field : List ℕ → ℕ → ℕ → ℕ
 field s at k = num (take k (drop at s))
 
+-- the byte at a place, 0 past the end
+abbrev pub byteAt : List ℕ → ℕ → ℕ
+byteAt s i = getD s i 0
+
 -- every element is a byte
 abbrev pub AreBytes : List ℕ → Type 0
 AreBytes s = (i : ℕ) → getD s i 0 < 256

@@ -1,0 +1,6 @@
+-- Laws of messages. Frames is for this crate's own functions.
+pub mod Lengths
+pub mod Ends
+pub mod Written
+pub mod Inverse
+mod Frames

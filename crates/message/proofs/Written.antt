@@ -1,0 +1,90 @@
+-- What writing a message does to a frame: where it is answered 0 the bytes at the offset are the message's, and every
+-- other byte of the frame is as it was; where it is refused the whole frame is. Assumes nothing.
+use mathlib.Core.Path.{_≡_, refl, ap, _∙_}
+use mathlib.Core.Bool.{true, false}
+use mathlib.Core.List.{List, _++_, append-assoc}
+use Prim.Native.Nat.{ℕ, _+_, _≤_, _<_}
+use native.Mathlib.Omega.{arith}
+use borrow.Author.Tests.{le-leb, lt-leb}
+use lib.ListN.{length, take, drop, length-append, length-drop}
+use lib.Seq.{take-at, drop-at, length-take-le}
+use Rattle.answer.proofs.Asked.{none-asked, refused, asked}
+use Rattle.answer.proofs.Bools.{by-bool, by-le}
+use Rattle.message.specs.Writing.{encode, lengthOf, isMessage, portSaid, placed, writeTo}
+use Rattle.message.specs.declared.Message.{Message}
+use Rattle.message.proofs.Lengths.{encode-length}
+
+-- a frame with bytes at an offset
+module _ (w frame : List ℕ) (at : ℕ) (fit : at + length w ≤ length frame) where
+  before-length : length (take at frame) ≡ at
+  before-length = length-take-le at frame (omega arith)
+
+  placed-there : take (length w) (drop at (placed w frame at)) ≡ w
+  placed-there = rw (append-assoc, drop-at (take at frame) _ at before-length) (take-at w _ (length w) refl)
+
+  placed-before : take at (placed w frame at) ≡ take at frame
+  placed-before = rw append-assoc (take-at (take at frame) _ at before-length)
+
+  placed-after : drop (at + length w) (placed w frame at) ≡ drop (at + length w) frame
+  placed-after = drop-at (take at frame ++ w) _ (at + length w) (rw (length-append, before-length))
+
+  placed-length : length (placed w frame at) ≡ length frame
+  placed-length = rw (length-append, length-append, before-length, length-drop) (omega arith)
+
+module _ (key : List ℕ) (m : Message) (frame : List ℕ) (at : ℕ) where
+  -- the answers, by the first question whose answer is no
+  pub nothing-written : isMessage m ≡ false → writeTo key m frame at ≡ (26, frame)
+  nothing-written n = refused _ _ 26 _ _ n
+
+  pub malformed-written : isMessage m ≡ true → portSaid m ≡ false → writeTo key m frame at ≡ (15, frame)
+  malformed-written y n = asked _ _ 26 _ _ y ∙ refused _ _ 15 _ _ n
+
+  pub too-long-written : isMessage m ≡ true → portSaid m ≡ true → length frame < at + lengthOf m
+      → writeTo key m frame at ≡ (25, frame)
+  too-long-written y p n = asked _ _ 26 _ _ y ∙ asked _ _ 15 _ _ p ∙ refused _ _ 25 _ _ (lt-leb _ _ n)
+
+  pub all-written : isMessage m ≡ true → portSaid m ≡ true → at + lengthOf m ≤ length frame
+      → writeTo key m frame at ≡ (0, placed (encode key m) frame at)
+  all-written y p r = asked _ _ 26 _ _ y ∙ asked _ _ 15 _ _ p ∙ asked _ _ 25 _ _ (le-leb _ _ r) ∙ none-asked _ _
+
+  fits : at + lengthOf m ≤ length frame → at + length (encode key m) ≤ length frame
+  fits h = omega (arith, encode-length key m)
+
+  -- a message that was written, or a refusal
+  pub by-written : {C : Type 0}
+      → (isMessage m ≡ true → portSaid m ≡ true → at + lengthOf m ≤ length frame
+      → writeTo key m frame at ≡ (0, placed (encode key m) frame at) → C)
+      → ((k : ℕ) → 0 < k → writeTo key m frame at ≡ (k, frame) → C) → C
+  by-written done refusal =
+      by-bool (isMessage m)
+      (λ y. by-bool (portSaid m)
+      (λ p. by-le (at + lengthOf m) (length frame) (λ r. done y p r (all-written y p r))
+      (λ r. refusal 25 (omega arith) (too-long-written y p r)))
+      (λ p. refusal 15 (omega arith) (malformed-written y p)))
+      (λ y. refusal 26 (omega arith) (nothing-written y))
+
+  -- what an answer says
+  pub written-asked : writeTo key m frame at .0 ≡ 0
+      → (isMessage m ≡ true) × (portSaid m ≡ true) × (at + lengthOf m ≤ length frame)
+  written-asked h = by-written (λ y p r e. (y, p, r)) (λ k n e. let z = rw e at h in absurd (omega arith))
+
+  pub not-written : (writeTo key m frame at .0 ≡ 0 → ⊥) → writeTo key m frame at .1 ≡ frame
+  not-written h = by-written (λ y p r e. absurd (h (ap (λ (a : ℕ × List ℕ). a .0) e))) (λ k n e. rw e)
+
+  pub written : writeTo key m frame at .0 ≡ 0
+      → take (lengthOf m) (drop at (writeTo key m frame at .1)) ≡ encode key m
+  written h =
+      by-written (λ y p r e. rw (e, ← encode-length key m) (placed-there (encode key m) frame at (fits r)))
+      (λ k n e. let z = rw e at h in absurd (omega arith))
+
+  -- whether it was written or refused
+  pub written-length : length (writeTo key m frame at .1) ≡ length frame
+  written-length = by-written (λ y p r e. rw e (placed-length (encode key m) frame at (fits r))) (λ k n e. rw e)
+
+  pub written-before : take at (writeTo key m frame at .1) ≡ take at frame
+  written-before = by-written (λ y p r e. rw e (placed-before (encode key m) frame at (fits r))) (λ k n e. rw e)
+
+  pub written-after : drop (at + lengthOf m) (writeTo key m frame at .1) ≡ drop (at + lengthOf m) frame
+  written-after =
+      by-written (λ y p r e. rw (e, ← encode-length key m) (placed-after (encode key m) frame at (fits r)))
+      (λ k n e. rw e)
