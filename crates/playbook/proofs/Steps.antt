@@ -1,0 +1,133 @@
+-- A plan more and a change more: in the store they are what they are in the book, and what passes its questions fits
+-- the store and leaves it sound. Assumes nothing.
+use mathlib.Core.Path.{_≡_, sym, ap, _∙_}
+use mathlib.Core.Bool.{true}
+use mathlib.Core.List.{List, [], _∷_, _++_}
+use Prim.Native.Nat.{ℕ, _+_, _-_, _≤_, _<_}
+use native.Mathlib.Omega.{arith}
+use borrow.Author.Tests.{ltb-true}
+use lib.ListN.{length, set, getD, length-append}
+use lib.Seq.{getD-take}
+use Rattle.answer.specs.Ask.{Question, firstNo}
+use Rattle.answer.proofs.Asked.{passed, reply-ap, Numbered, all-yes}
+use Rattle.answer.proofs.Bools.{and-parts}
+use Rattle.lists.specs.Arrays.{pad}
+use Rattle.lists.proofs.Padding.{pad-snoc, pad-get, pad-set}
+use Rattle.playbook.specs.Limits.{maxPlans, maxChanges}
+use Rattle.playbook.specs.Books.{Book, emptyPlan, meaning, storeOf, Trigger, lastCount, counted, countLast}
+use Rattle.playbook.specs.Books.{newPlan, withPlan, withChange, planQuestions, changeQuestions, taken}
+use Rattle.playbook.specs.declared.Change.{Change}
+use Rattle.playbook.specs.declared.Plan.{Plan}
+use Rattle.playbook.specs.declared.Playbook.{Playbook}
+use Rattle.playbook.specs.declared.Taken.{Taken}
+use Rattle.playbook.proofs.Sound.{Fits, Sound, meaning-store, sound-fits, sound-planned, sound-listed}
+use Rattle.playbook.proofs.Sound.{count-length, last-at, count-at}
+
+-- the store with a plan more, and with a change more, of the last plan
+abbrev pub planStored : Playbook → Trigger → Playbook
+planStored p t = record {
+  plans = set (p .plans) (p .planned) (newPlan t (p .listed));
+  planned = p .planned + 1;
+  changes = p .changes;
+  listed = p .listed;
+}
+
+abbrev pub changeStored : Playbook → Change → Playbook
+changeStored p c =
+    let last = p .planned - 1 in
+    record {
+      plans = set (p .plans) last (counted (getD (p .plans) last emptyPlan));
+      planned = p .planned;
+      changes = set (p .changes) (p .listed) c;
+      listed = p .listed + 1;
+    }
+
+-- the same of the store of a book
+plan-stored : (b : Book) (t : Trigger) → planStored (storeOf b) t ≡ storeOf (withPlan b t)
+plan-stored b t = rw (pad-snoc, length-append)
+
+last-stored : (qs : List Plan) → 0 < length qs → length qs ≤ maxPlans
+    → let last = length qs - 1 in
+    let plans = pad maxPlans emptyPlan qs in
+    set plans last (counted (getD plans last emptyPlan)) ≡ pad maxPlans emptyPlan (countLast qs)
+last-stored qs h k =
+    let last = length qs - 1 in
+    rw (count-at qs h, pad-get maxPlans emptyPlan qs last emptyPlan (omega arith) (omega arith))
+    (pad-set maxPlans emptyPlan qs last _ (omega arith))
+
+change-stored : (b : Book) (c : Change) → Fits b → 0 < length (b .plans)
+    → changeStored (storeOf b) c ≡ storeOf (withChange b c)
+change-stored b c f h = rw (last-stored (b .plans) h (f .plans), pad-snoc, length-append, count-length)
+
+-- the same of every sound store
+pub plan-more : (p : Playbook) (t : Trigger) → Sound p → planStored p t ≡ storeOf (withPlan (meaning p) t)
+plan-more p t e = ap (λ (q : Playbook). planStored q t) e ∙ plan-stored (meaning p) t
+
+pub change-more : (p : Playbook) (c : Change) → Sound p → 0 < p .planned
+    → changeStored p c ≡ storeOf (withChange (meaning p) c)
+change-more p c e h =
+    ap (λ (q : Playbook). changeStored q c) e
+    ∙ change-stored (meaning p) c (sound-fits p e) (rw (← sound-planned p e) h)
+
+-- how many changes the last plan has, read from the store
+pub last-count : (p : Playbook) → Sound p → 0 < p .planned
+    → lastCount (meaning p .plans) ≡ getD (p .plans) (p .planned - 1) emptyPlan .count
+last-count p e h =
+    let some : 0 < length (meaning p .plans) = rw (← sound-planned p e) h in
+    last-at (meaning p .plans) some
+    ∙ rw (← sound-planned p e, getD-take (p .planned) (p .plans) (p .planned - 1) emptyPlan (omega arith))
+
+-- how many plans a sound store has
+pub few-plans : (p : Playbook) → Sound p → p .planned ≤ maxPlans
+few-plans p e = omega (arith, sound-planned p e, sound-fits p e .plans)
+
+-- a refusal leaves the store as it was
+pub kept : (p : Playbook) (k : ℕ) → Sound p
+    → _≡_ {A = Taken} (record { answer = k; playbook = p }) (record { answer = k; playbook = storeOf (meaning p) })
+kept p k e = ap (λ (q : Playbook). record { answer = k; playbook = q }) e
+
+-- a store of a book that fits: what it means, and that it is sound
+pub means : (p : Playbook) (b : Book) → p ≡ storeOf b → Fits b → meaning p ≡ b
+means p b e f = ap meaning e ∙ meaning-store b f
+
+pub is-sound : (p : Playbook) (b : Book) → p ≡ storeOf b → Fits b → Sound p
+is-sound p b e f = e ∙ ap storeOf (sym (means p b e f))
+
+-- a plan more and a change more fit where there is room
+plan-fits : (b : Book) (t : Trigger) → Fits b → length (b .plans) < maxPlans → Fits (withPlan b t)
+plan-fits b t f h = record { plans = rw length-append (omega arith); changes = f .changes }
+
+change-fits : (b : Book) (c : Change) → Fits b → length (b .changes) < maxChanges → Fits (withChange b c)
+change-fits b c f h = record { plans = rw count-length (f .plans); changes = rw length-append (omega arith) }
+
+-- the changes of the store with a change more
+pub more-changes : (p next : Playbook) (c : Change) → Sound p → p .listed < maxChanges
+    → next ≡ storeOf (withChange (meaning p) c)
+    → (next .listed ≤ maxChanges) × (meaning next .changes ≡ meaning p .changes ++ c ∷ [])
+more-changes p next c e h n =
+    let fits = change-fits (meaning p) c (sound-fits p e) (omega (arith, sound-listed p e)) in (
+      omega (arith, ap (λ (q : Playbook). q .listed) n, fits .changes),
+      ap (λ (b : Book). b .changes) (means next (withChange (meaning p) c) n fits),
+    )
+
+-- the answer is the first question whose answer is no; where there is none, the next book is stored
+module _ (qs : List Question) (b next : Book) (r : Taken) (e : r ≡ taken qs b next) where
+  pub answer-is : r .answer ≡ firstNo qs
+  answer-is = ap (λ (x : Taken). x .answer) e ∙ reply-ap (λ (x : Taken). x .answer) qs _ _
+
+  pub next-stored : Numbered qs ≡ true → r .answer ≡ 0 → r .playbook ≡ storeOf next
+  next-stored n a = ap (λ (x : Taken). x .playbook) (e ∙ all-yes qs _ _ n (sym answer-is ∙ a))
+
+-- what passed its questions fits the store
+pub plan-passed : (b : Book) (t : Trigger) → Fits b → firstNo (planQuestions b t) ≡ 0 → Fits (withPlan b t)
+plan-passed b t f e =
+    let known = passed 11 _ _ e in
+    let new = passed 34 _ _ (known .1) in
+    plan-fits b t f (ltb-true _ _ (passed 35 _ _ (new .1) .0))
+
+pub change-passed : (b : Book) (c : Change) → Fits b → firstNo (changeQuestions b c) ≡ 0 → Fits (withChange b c)
+change-passed b c f e =
+    let known = passed 11 _ _ e in
+    let planned = passed 33 _ _ (known .1) in
+    let formed = passed 14 _ _ (planned .1) in
+    change-fits b c f (ltb-true _ _ (and-parts _ _ (passed 35 _ _ (formed .1) .0) .0))

@@ -1,0 +1,54 @@
+-- `changes_ok` meets its contract. The loop's invariant: the first n changes pass where those from i on do.
+-- Assumes nothing.
+use mathlib.Core.Path.{_≡_, sym, ap, _∙_}
+use mathlib.Core.Bool.{_&&_}
+use Prim.Native.Nat.{_+_, _-_, _≤_}
+use native.Mathlib.Omega.{arith}
+use borrow.Author.Needs.{needs}
+use lib.ListN.{length, take, drop, getD}
+use Rattle.lists.specs.Arrays.{everyTail, every}
+use Rattle.lists.proofs.Stores.{back}
+use Rattle.playbook.specs.Limits.{maxChanges}
+use Rattle.playbook.specs.Books.{emptyChange}
+use Rattle.playbook.specs.Storing.{changeOk}
+use Rattle.playbook.proofs.Scans.{ahead}
+use Rattle.playbook.proofs.storing.changes_ok.Statement.{statement}
+use Rattle.playbook.proofs.storing.changes_ok.Tie as tie
+
+abbrev Inv-loop : tie.InvT-loop
+Inv-loop n changes i₀ i = (i ≤ n) × (every changeOk (take n changes) ≡ every changeOk (drop i (take n changes)))
+
+abbrev μ-loop : tie.MeasureT-loop
+μ-loop n changes i₀ i = n - i
+
+-- a turn tests the i-th change, and leaves those from i + 1 on
+turn : (c : tie.In-loop Inv-loop μ-loop)
+    → let a = c .before .before .args in
+    let i = c .before .loop .i in
+    let cs = take (a .n) (a .t1) in
+    every changeOk cs ≡ (changeOk (getD (a .t1) i emptyChange) && every changeOk (drop (i + 1) cs))
+unfolding everyTail
+turn c =
+    let a = c .before .before .args in
+    let long : length (a .t1) ≡ maxChanges = search needs in
+    c .before .loop .inv .1
+    ∙ ap (every changeOk) (ahead (a .t1) (a .n) (c .before .loop .i) emptyChange (omega arith) (omega arith))
+
+loop-again : tie.Need-loop-again Inv-loop μ-loop
+loop-again c =
+    (omega arith, turn (c .before .before .before) ∙ rw (sym (c .before .change-ok .ensures) ∙ c .if1 .taken))
+
+returns : tie.Need-returns Inv-loop μ-loop
+returns c = sym (turn (c .before .before .before) ∙ rw (sym (c .before .change-ok .ensures) ∙ c .if1 .left))
+
+returns-2 : tie.Need-returns-2 Inv-loop μ-loop
+unfolding everyTail
+returns-2 c =
+    let a = c .before .before .args in
+    sym (c .before .loop .inv .1 ∙ ap (every changeOk) (back (a .t1) (a .n) (c .before .loop .i) (omega arith)))
+
+pub changes-ok-spec : {M : Type 1} → statement M
+changes-ok-spec =
+    tie.close
+    (tie.spec Inv-loop μ-loop (λ c. search needs) (λ c. search needs) (λ c. search needs) (λ c κs. search needs)
+    (λ c. search needs) (λ c. search needs) loop-again returns returns-2)

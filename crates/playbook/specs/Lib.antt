@@ -1,0 +1,8 @@
+-- The playbook's store, its records, what reading does, which stores it leaves, and the plan of a trigger.
+pub mod Limits
+pub mod Books
+pub mod Records
+pub mod Reading
+pub mod Storing
+pub mod Printing
+pub mod Plans

@@ -1,0 +1,32 @@
+-- The bytes of a stored playbook, from which its reader gives it back. Each printer puts its bytes before those that
+-- follow. Assumes nothing.
+use Prim.Native.Nat.{ℕ}
+use mathlib.Core.List.{List, [], _∷_, _++_}
+use lib.ListN.{take, drop}
+use Rattle.lists.specs.Bytes.{be}
+use Rattle.flow.specs.Rules.{portOf}
+use Rattle.playbook.specs.Limits.{planKind, changeKind, endKind}
+use Rattle.playbook.specs.Books.{Book, meaning}
+use Rattle.playbook.specs.declared.Change.{Change}
+use Rattle.playbook.specs.declared.Plan.{Plan}
+use Rattle.playbook.specs.declared.Playbook.{Playbook}
+
+abbrev pub planBytes : Plan → List ℕ → List ℕ
+planBytes q rest = planKind ∷ q .switch ∷ q .cause ∷ rest
+
+abbrev pub changeBytes : Change → List ℕ → List ℕ
+changeBytes c rest =
+    changeKind ∷ c .flow ∷ c .switch
+    ∷ be 4 (c .rule .prefix) ++ c .rule .length ∷ be 2 (portOf (c .rule .action)) ++ rest
+
+unfoldable pub changesBytes : List Change → List ℕ → List ℕ
+changesBytes [] rest = rest
+changesBytes (c ∷ cs) rest = changeBytes c (changesBytes cs rest)
+
+-- each plan with its changes, then the end record
+unfoldable pub plansBytes : List Plan → List Change → List ℕ
+plansBytes [] cs = endKind ∷ []
+plansBytes (q ∷ qs) cs = planBytes q (changesBytes (take (q .count) cs) (plansBytes qs (drop (q .count) cs)))
+
+abbrev pub bytesOf : Playbook → List ℕ
+bytesOf p = plansBytes (meaning p .plans) (meaning p .changes)

@@ -1,0 +1,98 @@
+// How many different prefixes with lengths a switch has in a playbook (question 37).
+ghost use mathlib.Core.Path.{_≡_};
+ghost use Prim.Native.Nat.{_≤_};
+ghost use lib.Dec.{leb, eqb};
+ghost use lib.ListN.{length, take};
+ghost use Rattle.flow.specs.Rules.{ruleKey};
+ghost use Rattle.lists.specs.Kinds.{among};
+ghost use Rattle.playbook.specs.Limits.{maxChanges, maxKeys, switchCount};
+ghost use Rattle.playbook.specs.Books.{kindsOn};
+ghost use Rattle.playbook.specs.Storing.{fewKeysBelow, keyNumber, Counted};
+use crate::Change;
+use crate::limits;
+use flow::Rule;
+
+// A prefix and its length as one number.
+fn key_number(rule: Rule) -> u64
+    ensures { λ r. ⌜ r ≡ keyNumber (ruleKey rule) ⌝ }
+{
+    (rule.prefix as u64) * 256 + (rule.length as u64)
+}
+
+// Whether a key is one of the first n.
+fn holds(keys: &[u64], n: usize, key: u64) -> bool
+    requires { ⌜ n ≤ length (now keys) ⌝ }
+    ensures { λ r. ⌜ r ≡ among eqb key (take n (now (keys .entry))) ⌝ }
+{
+    let mut i: usize = 0;
+    while i < n {
+        if keys[i] == key {
+            return true;
+        }
+        i += 1;
+    }
+    false
+}
+
+// Whether the first n changes have not too many different keys on a switch. From the last change to the first, the keys
+// that no later change has are gathered, so a change is compared with at most 64 of them and not with every other.
+pub(crate) fn keys_fit(changes: [Change; limits::CHANGES], n: usize, switch: u8) -> bool
+    requires { ⌜ n ≤ maxChanges ⌝ }
+    ensures { λ r. ⌜ r ≡ leb (kindsOn switch (take n changes)) maxKeys ⌝ }
+{
+    let mut seen = [0u64; limits::KEYS];
+    let mut count: usize = 0;
+    let mut i = n;
+    while 0 < i {
+        i -= 1;
+        let c = changes[i];
+        if c.switch == switch {
+            let key = key_number(c.rule);
+            if !holds(&seen, count, key) {
+                if limits::KEYS <= count {
+                    return false;
+                }
+                seen[count] = key;
+                count += 1;
+            }
+        }
+    }
+    true
+}
+
+// How many of the first n changes are on each switch.
+fn counts(changes: [Change; limits::CHANGES], n: usize) -> [usize; limits::PLACES]
+    requires { ⌜ n ≤ maxChanges ⌝ }
+    ensures { λ r. ⌜ Counted r (take n changes) ⌝ }
+{
+    let mut out = [0usize; limits::PLACES];
+    let mut i: usize = 0;
+    while i < n {
+        let c = changes[i];
+        if c.switch < limits::SWITCHES {
+            let s = c.switch as usize;
+            out[s] = out[s] + 1;
+        }
+        i += 1;
+    }
+    out
+}
+
+// Whether no switch has too many different keys. A switch with few changes has few keys, so in most playbooks no two
+// changes are compared.
+pub(crate) fn keys_ok(changes: [Change; limits::CHANGES], n: usize) -> bool
+    requires { ⌜ n ≤ maxChanges ⌝ }
+    ensures { λ r. ⌜ r ≡ fewKeysBelow switchCount (take n changes) ⌝ }
+{
+    let on = counts(changes, n);
+    let mut s = limits::SWITCHES;
+    while 0 < s {
+        s -= 1;
+        if limits::KEYS < on[s as usize] {
+            if !keys_fit(changes, n, s) {
+                return false;
+            }
+        }
+    }
+    true
+}

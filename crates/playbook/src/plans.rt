@@ -1,0 +1,73 @@
+// Triggers, and the plan of a switch and cause.
+ghost use mathlib.Core.Path.{_≡_};
+ghost use Prim.Native.Nat.{_≤_};
+ghost use lib.ListN.{take, drop};
+ghost use Rattle.playbook.specs.Limits.{maxPlans};
+ghost use Rattle.playbook.specs.Books.{triggerOf, sameTrigger, hasTrigger, newPlan};
+ghost use Rattle.playbook.specs.Plans.{planOf};
+use crate::Plan;
+use crate::Playbook;
+use crate::limits;
+
+pub(crate) fn is_trigger(q: Plan, switch: u8, cause: u8) -> bool
+    ensures { λ r. ⌜ r ≡ sameTrigger (triggerOf q) (switch, cause) ⌝ }
+{
+    if q.switch == switch {
+        q.cause == cause
+    } else {
+        false
+    }
+}
+
+// Whether one of the first n plans, from a place on, has this trigger.
+pub(crate) fn has_trigger(
+    plans: [Plan; limits::PLANS],
+    n: usize,
+    from: usize,
+    switch: u8,
+    cause: u8,
+) -> bool
+    requires { ⌜ (n ≤ maxPlans) × (from ≤ n) ⌝ }
+    ensures { λ r. ⌜ r ≡ hasTrigger (switch, cause) (drop from (take n plans)) ⌝ }
+{
+    let mut i = from;
+    while i < n {
+        let q = plans[i];
+        if is_trigger(q, switch, cause) {
+            return true;
+        }
+        i += 1;
+    }
+    false
+}
+
+fn no_plan(switch: u8, cause: u8) -> Plan
+    ensures { λ r. ⌜ r ≡ newPlan (switch, cause) 0 ⌝ }
+{
+    Plan {
+        switch: switch,
+        cause: cause,
+        first: 0,
+        count: 0,
+    }
+}
+
+// The plan of a switch and cause; without one, a plan with no changes. Of every store, the plans in use are looked at.
+pub fn plan_of(p: Playbook, switch: u8, cause: u8) -> Plan
+    ensures { λ r. ⌜ r ≡ planOf (switch, cause) (take (p .planned) (p .plans)) ⌝ }
+{
+    let plans = p.plans;
+    let n = p.planned;
+    let mut i: usize = 0;
+    while i < n {
+        if limits::PLANS <= i {
+            return no_plan(switch, cause);
+        }
+        let q = plans[i];
+        if is_trigger(q, switch, cause) {
+            return q;
+        }
+        i += 1;
+    }
+    no_plan(switch, cause)
+}
