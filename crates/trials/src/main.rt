@@ -1,0 +1,431 @@
+// Runs the cases of standard input through message and playbook, and prints a line for each. A case is a letter, two
+// bytes of length and that many bytes. tests/trials.py makes the cases, and works out the lines from document 01 alone.
+use flow::Action;
+use flow::Rule;
+use libc::STDIN_FILENO;
+use libc::STDOUT_FILENO;
+use message::End;
+use message::Message;
+use playbook::Change;
+use playbook::Outcome;
+use playbook::Plan;
+use playbook::Playbook;
+
+// The key of every message here.
+const KEY: [u8; 32] = [0x0b; 32];
+
+fn say(text: &[u8]) {
+    io::write_all(STDOUT_FILENO, text);
+}
+
+fn say_number(n: u64) {
+    say(b" ");
+    io::print_decimal(STDOUT_FILENO, n);
+}
+
+fn say_byte(n: u8) {
+    say_number(n as u64);
+}
+
+fn say_word(n: u32) {
+    say_number(n as u64);
+}
+
+fn say_size(n: usize) {
+    say_number(n as u64);
+}
+
+fn say_hex_byte(n: u8) {
+    io::print_hex(STDOUT_FILENO, n as u64, 2);
+}
+
+fn say_hex(bytes: &[u8]) {
+    let mut i: usize = 0;
+    while i < bytes.len() {
+        say_hex_byte(bytes[i]);
+        i += 1;
+    }
+}
+
+// The byte at a place, 0 past the end.
+fn byte_at(s: &[u8], i: usize) -> u8 {
+    if i < s.len() { s[i] } else { 0 }
+}
+
+fn say_rule(rule: Rule) {
+    let action = rule.action;
+    let port = flow::port_of(action);
+    say_word(rule.prefix);
+    say_byte(rule.length);
+    say_number(port as u64);
+}
+
+fn say_message(m: Message) {
+    match m {
+        Message::Event {
+            switch,
+            controller,
+            serial,
+            cause,
+        } => {
+            say(b"event");
+            say_byte(switch);
+            say_byte(controller);
+            say_word(serial);
+            say_byte(cause);
+        }
+        Message::Share {
+            controller,
+            switch,
+            number,
+            rule,
+        } => {
+            say(b"share");
+            say_byte(controller);
+            say_byte(switch);
+            say_word(number);
+            say_rule(rule);
+        }
+        Message::Acknowledgement {
+            switch,
+            controller,
+            number,
+        } => {
+            say(b"acknowledgement");
+            say_byte(switch);
+            say_byte(controller);
+            say_word(number);
+        }
+        Message::Refused(k) => {
+            say(b"refused");
+            say_byte(k);
+        }
+    }
+}
+
+// Bytes received at an end: the message, its answer, and whether its tag matches.
+fn receive(end: End, s: &[u8]) {
+    let m = message::read(end, s);
+    say_message(m);
+    say(b" answer");
+    say_byte(message::number(m));
+    if message::is_sealed(&KEY, s) {
+        say(b" sealed\n");
+    } else {
+        say(b" not sealed\n");
+    }
+}
+
+// The action of a byte (0 removes, others set) and a port, so that a set of port 0 can be asked for too.
+fn action_of(kind: u8, port: u16) -> Action {
+    if kind == 0 {
+        Action::Remove
+    } else {
+        Action::Set(port)
+    }
+}
+
+fn share_of(s: &[u8]) -> Message {
+    let prefix = lists::u32_of(
+        byte_at(s, 16),
+        byte_at(s, 17),
+        byte_at(s, 18),
+        byte_at(s, 19),
+    );
+    let port = lists::u16_of(byte_at(s, 22), byte_at(s, 23));
+    let action = action_of(byte_at(s, 21), port);
+    let rule = Rule {
+        prefix: prefix,
+        length: byte_at(s, 20),
+        action: action,
+    };
+    Message::Share {
+        controller: byte_at(s, 10),
+        switch: byte_at(s, 11),
+        number: lists::u32_of(
+            byte_at(s, 12),
+            byte_at(s, 13),
+            byte_at(s, 14),
+            byte_at(s, 15),
+        ),
+        rule: rule,
+    }
+}
+
+// The message to write: its kind at 9, its fields from 10 on.
+fn message_of(s: &[u8]) -> Message {
+    let kind = byte_at(s, 9);
+    let number = lists::u32_of(
+        byte_at(s, 12),
+        byte_at(s, 13),
+        byte_at(s, 14),
+        byte_at(s, 15),
+    );
+    if kind == 1 {
+        return Message::Event {
+            switch: byte_at(s, 10),
+            controller: byte_at(s, 11),
+            serial: number,
+            cause: byte_at(s, 16),
+        };
+    }
+    if kind == 2 {
+        return share_of(s);
+    }
+    if kind == 3 {
+        return Message::Acknowledgement {
+            switch: byte_at(s, 10),
+            controller: byte_at(s, 11),
+            number: number,
+        };
+    }
+    Message::Refused(byte_at(s, 10))
+}
+
+fn offset_of(s: &[u8]) -> usize {
+    let high = lists::u32_of(byte_at(s, 1), byte_at(s, 2), byte_at(s, 3), byte_at(s, 4));
+    let low = lists::u32_of(byte_at(s, 5), byte_at(s, 6), byte_at(s, 7), byte_at(s, 8));
+    let wide = (high as u64) * 4294967296 + (low as u64);
+    wide as usize
+}
+
+// A message written into the front of a frame, as many bytes as the case's first byte says, or all: the answer.
+fn write_into(frame: &mut [u8], s: &[u8]) -> u8 {
+    let m = message_of(s);
+    let at = offset_of(s);
+    let n = byte_at(s, 0) as usize;
+    if n < frame.len() {
+        message::write(m, &KEY, &mut frame[0..n], at)
+    } else {
+        message::write(m, &KEY, frame, at)
+    }
+}
+
+// A message written into a frame of up to 48 bytes, and the whole frame afterwards.
+fn write(s: &[u8]) {
+    let mut space = [0xeeu8; 48];
+    let answer = write_into(&mut space, s);
+    say(b"written");
+    say_byte(answer);
+    say(b" ");
+    say_hex(&space);
+    say(b"\n");
+}
+
+fn say_plan(q: Plan) {
+    say(b" plan");
+    say_byte(q.switch);
+    say_byte(q.cause);
+    say_size(q.first);
+    say_size(q.count);
+}
+
+fn say_change(c: Change) {
+    say(b" change");
+    say_byte(c.flow);
+    say_byte(c.switch);
+    say_rule(c.rule);
+}
+
+fn say_plans(p: Playbook) {
+    let plans = p.plans;
+    let n = p.planned;
+    let mut i: usize = 0;
+    while i < 64 {
+        if i < n {
+            let q = plans[i];
+            say_plan(q);
+        }
+        i += 1;
+    }
+}
+
+fn say_changes(p: Playbook) {
+    let changes = p.changes;
+    let n = p.listed;
+    let mut i: usize = 0;
+    while i < 512 {
+        if i < n {
+            let c = changes[i];
+            say_change(c);
+        }
+        i += 1;
+    }
+}
+
+fn say_stored(p: Playbook) {
+    if playbook::stored(p) {
+        say(b" stored");
+    } else {
+        say(b" not stored");
+    }
+}
+
+fn say_outcome(r: Outcome) {
+    let p = r.playbook;
+    say_byte(r.answer);
+    say_size(r.used);
+    say_size(p.planned);
+    say_size(p.listed);
+    say_stored(p);
+}
+
+// A playbook as the whole input, and at its front.
+fn read(s: &[u8]) {
+    say(b"whole");
+    say_outcome(playbook::read(s));
+    say(b" first");
+    say_outcome(playbook::read_first(s));
+    say(b"\n");
+}
+
+// The store of a playbook, and the plan of the trigger in the first two bytes.
+fn show(s: &[u8]) {
+    if s.len() < 2 {
+        return;
+    }
+    let r = playbook::read(&s[2..]);
+    let p = r.playbook;
+    say(b"store");
+    say_plans(p);
+    say_changes(p);
+    say(b" finds");
+    say_plan(playbook::plan_of(p, s[0], s[1]));
+    say(b"\n");
+}
+
+fn with_plan(p: Playbook, at: usize, q: Plan) -> Playbook {
+    let mut next = p;
+    if at < 64 {
+        next.plans[at] = q;
+    }
+    next
+}
+
+fn with_change(p: Playbook, at: usize, c: Change) -> Playbook {
+    let mut next = p;
+    if at < 512 {
+        next.changes[at] = c;
+    }
+    next
+}
+
+fn change_of(switch: u8, prefix: u32, length: u8, action: Action) -> Change {
+    let rule = Rule {
+        prefix: prefix,
+        length: length,
+        action: action,
+    };
+    Change {
+        flow: 0,
+        switch: switch,
+        rule: rule,
+    }
+}
+
+fn plan_of(switch: u8, cause: u8, first: usize, count: usize) -> Plan {
+    Plan {
+        switch: switch,
+        cause: cause,
+        first: first,
+        count: count,
+    }
+}
+
+fn recounted(p: Playbook, planned: usize, listed: usize) -> Playbook {
+    let mut next = p;
+    next.planned = planned;
+    next.listed = listed;
+    next
+}
+
+// A store with one thing altered, by its number.
+fn damaged(p: Playbook, what: u8) -> Playbook {
+    let plans = p.plans;
+    let q = plans[0];
+    let planned = p.planned;
+    let listed = p.listed;
+    match what {
+        1 => recounted(p, 65, listed),
+        2 => recounted(p, planned, 513),
+        3 => recounted(p, 1, listed),
+        4 => recounted(p, planned, 1),
+        5 => with_plan(p, 0, plan_of(16, q.cause, q.first, q.count)),
+        6 => with_plan(p, 0, plan_of(q.switch, q.cause, 1, q.count)),
+        7 => with_plan(p, 0, plan_of(q.switch, q.cause, q.first, 33)),
+        8 => with_plan(p, 1, plan_of(q.switch, q.cause, 2, 1)),
+        9 => with_plan(p, 63, plan_of(0, 1, 0, 0)),
+        10 => with_change(p, 0, change_of(16, 0, 0, Action::Remove)),
+        11 => with_change(p, 0, change_of(0, 0, 33, Action::Remove)),
+        12 => with_change(p, 0, change_of(0, 0, 0, Action::Set(0))),
+        13 => with_change(p, 511, change_of(1, 0, 0, Action::Remove)),
+        _ => p,
+    }
+}
+
+// The first n changes on switch 0, each with another prefix.
+fn spread(p: Playbook, n: u8) -> Playbook {
+    let mut next = p;
+    let count = n as usize;
+    let mut i: usize = 0;
+    while i < count {
+        let c = change_of(0, (i as u32) * 65536, 16, Action::Remove);
+        next.changes[i] = c;
+        i += 1;
+    }
+    next
+}
+
+// The store of a playbook, damaged as the first byte says, or spread over as many prefixes as the second says.
+fn damage(s: &[u8]) {
+    if s.len() < 2 {
+        return;
+    }
+    let r = playbook::read(&s[2..]);
+    let p = r.playbook;
+    say(b"damaged");
+    say_byte(s[0]);
+    if s[1] == 0 {
+        say_stored(damaged(p, s[0]));
+    } else {
+        say_stored(spread(p, s[1]));
+    }
+    say(b"\n");
+}
+
+fn run_case(letter: u8, s: &[u8]) {
+    match letter {
+        b'S' => receive(End::Switch, s),
+        b'C' => receive(End::Controller, s),
+        b'W' => write(s),
+        b'P' => read(s),
+        b'L' => show(s),
+        b'D' => damage(s),
+        _ => say(b"unknown case\n"),
+    }
+}
+
+// The length of the first case's bytes.
+fn length_of(s: &[u8]) -> usize {
+    lists::u16_of(byte_at(s, 1), byte_at(s, 2)) as usize
+}
+
+fn run(s: &[u8]) {
+    let mut rest = s;
+    while 3 <= rest.len() {
+        let n = length_of(rest);
+        let body = &rest[3..];
+        if body.len() < n {
+            say(b"cut case\n");
+            return;
+        }
+        run_case(rest[0], &body[0..n]);
+        rest = &body[n..];
+    }
+}
+
+fn main() {
+    let mut space = io::large_buffer();
+    let n = io::read_full(STDIN_FILENO, &mut space);
+    run(&space[..n]);
+}
