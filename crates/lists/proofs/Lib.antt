@@ -2,5 +2,7 @@
 pub mod Stores
 pub mod Tails
 pub mod Padding
+pub mod Members
 pub mod Pigeonhole
 pub mod Numbers
+pub mod Runs

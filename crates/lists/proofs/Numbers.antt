@@ -1,7 +1,7 @@
 -- Numbers and their bytes, at every width. Assumes nothing.
 use mathlib.Core.Path.{_≡_, refl, sym, ap, ap₂, _∙_}
 use mathlib.Core.List.{List, [], _∷_, _++_}
-use Prim.Native.Nat.{ℕ, zero, suc, _+_, _-_, _*_, _/_, _%_, _^_, _≤_, _<_}
+use Prim.Native.Nat.{ℕ, zero, suc, _+_, _*_, _/_, _%_, _^_, _≤_, _<_}
 use native.Mathlib.Nat.{pow-suc, pow-succ', suc-add, add-suc, add-zero, add-mul, mul-assoc, mul-comm}
 use native.Mathlib.Nat.{add-assoc, mod-one, div-div-eq-div-mul, div-add-mod', mod-eq-of-lt, mul-add-div-right}
 use native.Mathlib.Nat.{mul-add-mod-self-right}
@@ -64,7 +64,7 @@ be-two x h =
     let q : x / 256 ^ 0 % 256 ≡ x % 256 = omega arith in
     ap₂ (λ (y z : ℕ). y ∷ z ∷ []) p q
 
--- a number from its bytes
+-- a number from its low bytes, and from all of them
 pub num-mod : (k x : ℕ) → num (be k x) ≡ x % 256 ^ k
 unfolding be num
 num-mod zero x = sym (mod-one x)
@@ -104,16 +104,18 @@ num-append (x ∷ a) b =
     ∙ ap (λ (y : ℕ). y + (num a * q + num b)) (sym (mul-assoc x p q))
     ∙ sym (add-assoc (x * p * q) (num a * q) (num b)) ∙ ap (λ (y : ℕ). y + num b) (sym (add-mul (x * p) (num a) q))
 
+part-length : (s : List ℕ) (at k : ℕ) → at + k ≤ length s → length (take k (drop at s)) ≡ k
+part-length s at k h = length-take-le k (drop at s) (simp length-drop (omega arith))
+
 -- a field is its high part, then its low part
 pub field-add : (s : List ℕ) (at a b : ℕ) → at + a + b ≤ length s
     → field s at (a + b) ≡ field s at a * 256 ^ b + field s (at + a) b
 unfolding field
 field-add s at a b h =
-    let l : length (take b (drop (at + a) s)) ≡ b =
-    length-take-le b (drop (at + a) s) (simp length-drop (omega arith)) in
     ap num (take-add a b (drop at s) ∙ ap (λ (t : List ℕ). take a (drop at s) ++ take b t) (drop-drop a at s))
     ∙ num-append (take a (drop at s)) (take b (drop (at + a) s))
-    ∙ ap (λ (i : ℕ). num (take a (drop at s)) * 256 ^ i + num (take b (drop (at + a) s))) l
+    ∙ ap (λ (i : ℕ). num (take a (drop at s)) * 256 ^ i + num (take b (drop (at + a) s)))
+    (part-length s (at + a) b h)
 
 pub field-one : (s : List ℕ) (at : ℕ) → at < length s → field s at 1 ≡ getD s at 0
 unfolding field num
@@ -135,16 +137,20 @@ bytes-drop k l h i = rw (getD-drop k l i 0) (h (k + i))
 pub be-field : (s : List ℕ) (at k : ℕ) → AreBytes s → at + k ≤ length s → be k (field s at k) ≡ take k (drop at s)
 unfolding field
 be-field s at k h f =
-    let l : length (take k (drop at s)) ≡ k = length-take-le k (drop at s) (simp length-drop (omega arith)) in
-    ap (λ (i : ℕ). be i (num (take k (drop at s)))) (sym l)
+    ap (λ (i : ℕ). be i (num (take k (drop at s)))) (sym (part-length s at k f))
     ∙ be-num (take k (drop at s)) (bytes-take k (drop at s) (bytes-drop at s h))
 
-pub get2 : (s : List ℕ) (at : ℕ) → at + 2 ≤ length s → getD s at 0 * 256 + getD s (at + 1) 0 ≡ field s at 2
+pub field-range : (s : List ℕ) (at k : ℕ) → AreBytes s → at + k ≤ length s → field s at k < 256 ^ k
+unfolding field
+field-range s at k b h =
+    rw (part-length s at k h) at (num-lt (take k (drop at s)) (bytes-take k (drop at s) (bytes-drop at s b)))
+
+get2 : (s : List ℕ) (at : ℕ) → at + 2 ≤ length s → getD s at 0 * 256 + getD s (at + 1) 0 ≡ field s at 2
 get2 s at h =
     let f : field s at 2 ≡ field s at 1 * 256 + field s (at + 1) 1 = field-add s at 1 1 (omega arith) in
     sym (f ∙ ap₂ (λ (x y : ℕ). x * 256 + y) (field-one s at (omega arith)) (field-one s (at + 1) (omega arith)))
 
-pub get4 : (s : List ℕ) (at : ℕ) {x y : ℕ} → at + 4 ≤ length s → x ≡ field s at 2 → y ≡ field s (at + 2) 2
+get4 : (s : List ℕ) (at : ℕ) {x y : ℕ} → at + 4 ≤ length s → x ≡ field s at 2 → y ≡ field s (at + 2) 2
     → x * 65536 + y ≡ field s at 4
 get4 s at h e f =
     let g : field s at 4 ≡ field s at 2 * 65536 + field s (at + 2) 2 = field-add s at 2 2 (omega arith) in

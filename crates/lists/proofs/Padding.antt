@@ -1,12 +1,14 @@
--- Padded lists. Assumes nothing.
+-- Padded lists: an array as the elements in use with one element in every place past them. Assumes nothing.
 use mathlib.Core.Path.{_≡_, refl, sym, ap, _∙_}
 use mathlib.Core.List.{List, [], _∷_, _++_}
+use mathlib.Core.Bool.{Bool, true}
 use Prim.Native.Nat.{ℕ, zero, suc, _+_, _-_, _≤_, _<_}
 use native.Mathlib.Numerals.{add-one}
 use native.Mathlib.Omega.{arith}
-use lib.ListN.{length, take, set, getD, replicate}
-use lib.Seq.{take-suc, length-take-le}
-use Rattle.lists.specs.Arrays.{pad}
+use lib.ListN.{length, take, drop, set, getD, replicate, length-drop, take-append-drop}
+use lib.Seq.{take-suc, length-take-le, drop-append-seam}
+use Rattle.lists.specs.Arrays.{pad, every}
+use Rattle.lists.proofs.Tails.{every-replicate, replicate-every}
 
 module _ {A : Type 0} where
   pub pad-length : (n : ℕ) (z : A) (l : List A) → length (pad n z l) ≡ n
@@ -77,3 +79,19 @@ module _ {A : Type 0} where
   pad-set (suc n) z [] i u h = absurd (omega arith)
   pad-set (suc n) z (x ∷ xs) zero u h = refl
   pad-set (suc n) z (x ∷ xs) (suc i) u h = ap (λ (l : List A). x ∷ l) (pad-set n z xs i u (omega arith))
+
+  -- past the list every place passes a test that z passes
+  pub pad-unused : (f : A → Bool) (z : A) (n : ℕ) (l : List A) → f z ≡ true → length l ≤ n
+      → every f (drop (length l) (pad n z l)) ≡ true
+  pad-unused f z n l e h = rw (pad-split n z l h, drop-append-seam) (replicate-every f z (n - length l) e)
+
+  -- and an array whose places past the first n pass a test that only z passes is padded with z
+  pub as-padded : (f : A → Bool) (z : A) → ((x : A) → f x ≡ true → x ≡ z) → {m : ℕ} (n : ℕ) (l : List A)
+      → length l ≡ m → n ≤ m → every f (drop n l) ≡ true → (l ≡ pad m z (take n l)) × (n ≡ length (take n l))
+  as-padded f z only {m} n l e h unused =
+      let used : length (take n l) ≡ n = length-take-le n l (omega arith) in
+      let free : length (drop n l) ≡ m - length (take n l) = simp length-drop (omega arith) in (
+        sym (take-append-drop n l)
+            ∙ rw (every-replicate f z only (drop n l) unused, free, pad-split m z (take n l) (omega arith)),
+        sym used,
+      )

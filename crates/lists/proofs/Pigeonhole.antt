@@ -1,19 +1,20 @@
--- Different members of a list are no more than its kinds: the pigeonhole, over any type with a test of equality.
--- Assumes nothing.
+-- Different members of a list are no more than its kinds: the pigeonhole, over any type with a test of equality. The
+-- last of each kind are such members, so that a longer list has no fewer kinds. Assumes nothing.
 use mathlib.Core.Path.{_≡_, refl, sym, ap, _∙_}
-use mathlib.Core.List.{List, [], _∷_}
+use mathlib.Core.List.{List, [], _∷_, _++_}
 use mathlib.Core.Bool.{Bool, true, false, not}
 use Prim.Native.Nat.{suc, _≤_}
 use native.Mathlib.Omega.{arith}
 use borrow.Author.Tests.{not-true}
 use lib.ListN.{length}
 use Rattle.answer.specs.Ask.{pick}
-use Rattle.answer.proofs.Bools.{by-bool, by-or, tf, and-parts, or-left, or-right}
+use Rattle.answer.proofs.Bools.{by-bool, by-or, tf, and-join, and-parts, or-left, or-right, is-false}
 use Rattle.lists.specs.Kinds.{among, different, kinds}
+use Rattle.lists.proofs.Members.{among-append}
 
 module _ {A : Type 0} (eq : A → A → Bool) where
   -- the last of each kind
-  unfoldable pub lasts : List A → List A
+  unfoldable lasts : List A → List A
   lasts [] = []
   lasts (x ∷ xs) = pick (among eq x xs) (lasts xs) (x ∷ lasts xs)
 
@@ -22,7 +23,7 @@ module _ {A : Type 0} (eq : A → A → Bool) where
   without k [] = []
   without k (x ∷ xs) = pick (eq x k) xs (x ∷ without k xs)
 
-  pub length-lasts : (l : List A) → length (lasts l) ≡ kinds eq l
+  length-lasts : (l : List A) → length (lasts l) ≡ kinds eq l
   unfolding lasts kinds
   length-lasts [] = refl
   length-lasts (x ∷ xs) = go (among eq x xs) (length-lasts xs)
@@ -31,6 +32,22 @@ module _ {A : Type 0} (eq : A → A → Bool) where
           → length (pick b (lasts xs) (x ∷ lasts xs)) ≡ pick b (kinds eq xs) (suc (kinds eq xs))
       go true h = h
       go false h = ap suc h
+
+  lasts-among : (k : A) (l : List A) → among eq k (lasts l) ≡ true → among eq k l ≡ true
+  unfolding among lasts
+  lasts-among k [] h = h
+  lasts-among k (x ∷ l) h =
+      by-bool (among eq x l) (λ b. or-right (eq x k) _ (lasts-among k l (rw b at h)))
+      (λ b. by-or (eq x k) (among eq k (lasts l)) (rw b at h) (or-left (eq x k) _)
+      (λ e. or-right (eq x k) _ (lasts-among k l e)))
+
+  lasts-different : (l : List A) → different eq (lasts l) ≡ true
+  unfolding different lasts
+  lasts-different [] = refl
+  lasts-different (x ∷ l) =
+      by-bool (among eq x l) (λ b. rw b (lasts-different l))
+      (λ b. rw b (and-join (not (among eq x (lasts l))) _ (ap not (is-false _ (λ e. tf (lasts-among x l e) b)))
+      (lasts-different l)))
 
   length-without : (k : A) (l : List A) → among eq k l ≡ true → length l ≡ suc (length (without k l))
   unfolding among without
@@ -77,4 +94,11 @@ module _ {A : Type 0} (eq : A → A → Bool) where
         → length ks ≤ kinds eq l
     pigeonhole ks l d h =
         let m = members ks (lasts l) d (λ k e. among-lasts k l (h k e)) in
+        omega (arith, length-lasts l)
+
+    -- so more members are no fewer kinds
+    pub kinds-append : (l m : List A) → kinds eq l ≤ kinds eq (l ++ m)
+    kinds-append l m =
+        let n = pigeonhole (lasts l) (l ++ m) (lasts-different l)
+        (λ k e. among-append eq k l m ∙ or-left _ _ (lasts-among k l e)) in
         omega (arith, length-lasts l)

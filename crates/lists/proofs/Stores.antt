@@ -1,12 +1,12 @@
--- An array as a list: what a loop that stores from the front has made so far, an element put in and one taken out, and
--- what is left of the elements in use. Assumes nothing.
+-- An array as a list: what a loop that stores from the front has made so far, what is left before a loop that reads,
+-- and an element put in and one taken out. Assumes nothing.
 use mathlib.Core.Path.{_≡_, refl, sym, ap, _∙_}
 use mathlib.Core.List.{List, [], _∷_, _++_, append-assoc, append-nil, map}
-use Prim.Native.Nat.{ℕ, zero, suc, _+_, _≤_, _<_}
+use Prim.Native.Nat.{ℕ, zero, suc, _+_, _-_, _≤_, _<_}
 use native.Mathlib.Numerals.{add-one}
 use native.Mathlib.Nat.{le-of-suc-le-suc, le-of-lt, not-suc-le-zero}
 use native.Mathlib.Omega.{arith}
-use lib.ListN.{length, take, drop, getD, set, length-take, drop-of-length-le, length-map}
+use lib.ListN.{length, take, drop, getD, set, length-take, length-drop, drop-of-length-le, length-map}
 use lib.Seq.{drop-cons, take-suc, set-at, length-take-le, take-nil, getD-take, take-all}
 use Rattle.lists.specs.Arrays.{put, del}
 
@@ -29,14 +29,35 @@ module _ {A : Type 0} where
   pub stored-whole : (l d : List A) (n : ℕ) → length l ≤ n → length d ≤ n → take n l ++ drop n d ≡ l
   stored-whole l d n h k = rw (take-all n l h, drop-of-length-le d {i = n} k, append-nil)
 
-  -- the first n elements, from i on
+  -- the element at hand and those after it: of all elements, and of the first n, which may be more than there are
+  pub rest : (l : List A) (i : ℕ) (z : A) → i < length l → drop i l ≡ getD l i z ∷ drop (i + 1) l
+  rest l i z h = rw add-one (drop-cons l i z h)
+
+  pub ahead : (l : List A) (n i : ℕ) (z : A) → i < n → i < length l
+      → drop i (take n l) ≡ getD l i z ∷ drop (i + 1) (take n l)
+  ahead l n i z h k = rest (take n l) i z (simp length-take (omega arith)) ∙ rw (getD-take n l i z h)
+
+  -- the same of n elements that there are, with the next place as a successor
   pub front : (es : List A) (n i : ℕ) (z : A) → i < n → n ≤ length es
       → drop i (take n es) ≡ getD es i z ∷ drop (suc i) (take n es)
-  front es n i z h k = drop-cons (take n es) i z (simp length-take (omega arith)) ∙ rw (getD-take n es i z h)
+  front es n i z h k = ahead es n i z h (omega arith) ∙ rw add-one
 
+  -- the element before the place, for a loop from the last to the first
+  pub behind : (l : List A) (n i : ℕ) (z : A) → 0 < i → i ≤ n → n ≤ length l
+      → drop (i - 1) (take n l) ≡ getD l (i - 1) z ∷ drop i (take n l)
+  behind l n i z g h k =
+      let e : i - 1 + 1 ≡ i = omega arith in
+      ahead l n (i - 1) z (omega arith) (omega arith) ∙ rw e
+
+  -- none of the first n is left
   pub back : (es : List A) (n i : ℕ) → n ≤ i → drop i (take n es) ≡ []
   back es n i h = drop-of-length-le (take n es) {i = i} (simp length-take (omega arith))
 
+  -- the part of a list that is lent from n on is all that is left from there
+  pub lent-rest : (l : List A) (n : ℕ) → take (length l - n) (drop n l) ≡ drop n l
+  lent-rest l n = take-all (length l - n) (drop n l) (simp length-drop (omega arith))
+
+  -- an element put in: what stands behind it, the first n with it, how many there are, and its store
   pub put-get : (es : List A) (at i : ℕ) (e z : A) → at ≤ i → getD (put at e es) (suc i) z ≡ getD es i z
   put-get es zero i e z h = refl
   put-get [] (suc a) i e z h = refl
@@ -60,6 +81,7 @@ module _ {A : Type 0} where
   put-holds (x ∷ xs) zero e h = refl
   put-holds (x ∷ xs) (suc a) e h = ap (λ (l : List A). x ∷ l) (put-holds xs a e (le-of-suc-le-suc h))
 
+  -- an element taken out: what stands from there on, the first n without it, how many there are, and no store yet
   pub del-get : (es : List A) (at i : ℕ) (z : A) → at ≤ i → getD (del at es) i z ≡ getD es (suc i) z
   del-get [] zero i z h = refl
   del-get (x ∷ xs) zero i z h = refl

@@ -1,13 +1,14 @@
--- The turns of a loop that tests every element, or every tail, from the front. Assumes nothing.
-use mathlib.Core.Path.{_≡_, refl, ap, _∙_}
-use mathlib.Core.List.{List, [], _∷_}
-use mathlib.Core.Bool.{Bool, true, _&&_}
+-- Tests of every element or every tail of a list: the turns of a loop that makes them from the front, and what they
+-- say of each element and of parts of the list. Assumes nothing.
+use mathlib.Core.Path.{_≡_, refl, sym, ap, _∙_}
+use mathlib.Core.List.{List, [], _∷_, _++_}
+use mathlib.Core.Bool.{Bool, true, _&&_, and-true, and-assoc}
 use Prim.Native.Nat.{ℕ, zero, suc, _+_, _≤_, _<_}
 use native.Mathlib.Numerals.{add-one}
 use native.Mathlib.Omega.{arith}
-use lib.ListN.{length, drop, getD, replicate, drop-of-length-le}
+use lib.ListN.{length, take, drop, getD, replicate, drop-of-length-le}
 use lib.Seq.{drop-cons}
-use Rattle.answer.proofs.Bools.{and-parts}
+use Rattle.answer.proofs.Bools.{and-join, and-parts}
 use Rattle.lists.specs.Arrays.{everyTail, onHead, every}
 
 module _ {A : Type 0} where
@@ -38,3 +39,37 @@ module _ {A : Type 0} where
   unfolding everyTail
   replicate-every f z zero e = refl
   replicate-every f z (suc n) e = rw e (replicate-every f z n e)
+
+module _ {A : Type 0} (f : A → Bool) where
+  -- a test of every element says it of each, and follows from each
+  pub every-at : (l : List A) (i : ℕ) (z : A) → every f l ≡ true → i < length l → f (getD l i z) ≡ true
+  unfolding everyTail
+  every-at [] i z h n = absurd (omega arith)
+  every-at (x ∷ l) zero z h n = and-parts (f x) (every f l) h .0
+  every-at (x ∷ l) (suc i) z h n = every-at l i z (and-parts (f x) (every f l) h .1) (omega arith)
+
+  pub every-all : (l : List A) (z : A) → ((i : ℕ) → i < length l → f (getD l i z) ≡ true) → every f l ≡ true
+  unfolding everyTail
+  every-all [] z h = refl
+  every-all (x ∷ l) z h = and-join (f x) _ (h 0 (omega arith)) (every-all l z (λ i n. h (suc i) (omega arith)))
+
+  -- it holds of a beginning and of a rest
+  pub every-take : (n : ℕ) (l : List A) → every f l ≡ true → every f (take n l) ≡ true
+  unfolding everyTail
+  every-take zero l h = refl
+  every-take (suc n) [] h = refl
+  every-take (suc n) (x ∷ l) h =
+      let t = and-parts (f x) (every f l) h in
+      and-join (f x) _ (t .0) (every-take n l (t .1))
+
+  pub every-drop : (n : ℕ) (l : List A) → every f l ≡ true → every f (drop n l) ≡ true
+  unfolding everyTail
+  every-drop zero l h = h
+  every-drop (suc n) [] h = refl
+  every-drop (suc n) (x ∷ l) h = every-drop n l (and-parts (f x) (every f l) h .1)
+
+  -- one more at the end
+  pub every-snoc : (l : List A) (x : A) → every f (l ++ x ∷ []) ≡ (every f l && f x)
+  unfolding everyTail
+  every-snoc [] x = and-true (f x)
+  every-snoc (y ∷ l) x = rw (every-snoc l x) (sym (and-assoc (f y) (every f l) (f x)))

@@ -12,9 +12,9 @@ use lib.ListN.{length}
 use Rattle.answer.specs.Ask.{reply}
 use Rattle.answer.proofs.Asked.{none-asked, refused, asked}
 use Rattle.answer.proofs.Bools.{by-eq}
+use Rattle.lists.specs.Bytes.{byteAt}
 use Rattle.message.specs.Layout.{eventKind, shareKind, acknowledgementKind, kindAt}
 use Rattle.message.specs.Layout.{eventLength, shareLength, acknowledgementLength}
-use Rattle.lists.specs.Bytes.{byteAt}
 use Rattle.message.specs.Reading.{eventOf, shareOf, acknowledgementOf, decode, numberOf}
 use Rattle.message.specs.declared.End.{End}
 use Rattle.message.specs.declared.End.the-variants.{Switch, Controller}

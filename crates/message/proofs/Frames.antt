@@ -1,16 +1,17 @@
--- Stores into a frame: one run of stores after another, the runs that numbers, bodies and whole messages are, and a
--- part back in its frame. Assumes nothing.
-use mathlib.Core.Path.{_≡_, sym, ap, _∙_}
+-- Stores into a frame: the runs of stores that numbers, bodies and whole messages are, and a part back in its frame.
+-- Assumes nothing.
+use mathlib.Core.Path.{_≡_, ap, _∙_}
 use mathlib.Core.Bool.{true}
 use mathlib.Core.List.{List, [], _∷_, _++_, append-assoc, append-nil}
-use Prim.Native.Nat.{ℕ, suc, _+_, _-_, _/_, _%_, _≤_, _<_}
-use native.Mathlib.Nat.{add-zero}
+use Prim.Native.Nat.{ℕ, _+_, _-_, _/_, _%_, _≤_, _<_}
 use native.Mathlib.Numerals.{add-one}
 use native.Mathlib.Omega.{arith}
-use lib.ListN.{length, getD, take, drop, set, length-append, length-drop, drop-of-length-le}
-use lib.Seq.{sets, sets-eq, take-at, take-all, drop-drop, take-suc, length-take-le}
+use lib.ListN.{length, take, drop, length-append, length-drop, drop-of-length-le}
+use lib.Seq.{sets, sets-eq, take-at, drop-drop}
 use Rattle.lists.specs.Bytes.{be}
 use Rattle.lists.proofs.Numbers.{length-be, be-two, be-split}
+use Rattle.lists.proofs.Runs.{sets-append}
+use Rattle.lists.proofs.Stores.{lent-rest}
 use Rattle.flow.specs.Rules.{portOf}
 use Rattle.flow.specs.declared.Rule.{Rule}
 use Rattle.tag.specs.Tags.{tagOf}
@@ -20,21 +21,6 @@ use Rattle.message.specs.Writing.{bodyOf, encode, lengthOf, isMessage, p
 use Rattle.message.specs.declared.Message.{Message}
 use Rattle.message.specs.declared.Message.the-variants.{Event, Share, Acknowledgement}
 use Rattle.message.proofs.Lengths.{bodyLength, body-length, body-and-tag, encode-body}
-
-module _ {A : Type 0} where
-  pub sets-append : (l : List A) (i : ℕ) (a b : List A) → sets l i (a ++ b) ≡ sets (sets l i a) (i + length a) b
-  sets-append l i [] b = ap (λ (k : ℕ). sets l k b) (sym (add-zero i))
-  sets-append l i (x ∷ a) b =
-      sets-append (set l i x) (suc i) a b ∙ ap (λ (k : ℕ). sets (sets (set l i x) (suc i) a) k b) (omega arith)
-
-  -- a turn of the loop that stores a list from an offset on
-  pub sets-turn : (l t : List A) (at i : ℕ) (z : A) {m : List A} → i < length t → m ≡ sets l at (take i t)
-      → set m (at + i) (getD t i z) ≡ sets l at (take (i + 1) t)
-  sets-turn l t at i z h e = rw (e, add-one, take-suc t i z h, sets-append, length-take-le i t (omega arith))
-
-  -- the part of a list that is lent from n on is all that is left from there
-  pub lent-rest : (l : List A) (n : ℕ) → take (length l - n) (drop n l) ≡ drop n l
-  lent-rest l n = take-all (length l - n) (drop n l) (simp length-drop (omega arith))
 
 -- a number of two bytes, and of four as two halves
 module _ (l : List ℕ) (at x : ℕ) {m n : List ℕ} where

@@ -7,11 +7,11 @@ use Prim.Native.Nat.{ℕ, suc, _+_, _-_, _^_, _≤_, _<_}
 use native.Mathlib.Omega.{arith}
 use borrow.Author.Tests.{le-leb}
 use lib.Dec.{leb}
-use lib.ListN.{length, take, drop, length-append, length-drop, take-append-drop}
-use lib.Seq.{take-add, drop-drop, drop-cons, length-take-le, take-at, drop-at}
+use lib.ListN.{length, take, drop, length-append, take-append-drop}
+use lib.Seq.{take-add, drop-drop, drop-cons, take-at, drop-at}
 use Rattle.answer.proofs.Bools.{and-join, and-parts}
 use Rattle.lists.specs.Bytes.{be, num, field, AreBytes, byteAt}
-use Rattle.lists.proofs.Numbers.{num-be, num-lt, be-field, bytes-take, bytes-drop}
+use Rattle.lists.proofs.Numbers.{num-be, be-field, field-range}
 use Rattle.flow.specs.Rules.{portOf, ruleOf}
 use Rattle.flow.specs.declared.Rule.{Rule}
 use Rattle.flow.proofs.Actions.{action-port, action-ok, port-rule}
@@ -76,12 +76,6 @@ pub decode-message : (end : End) (s : List ℕ) → numberOf (decode end s) ≡ 
 decode-message end s h =
     by-read (λ (m : Message). (isMessage m ≡ true) × (portSaid m ≡ true)) end s h (λ l k. (refl, refl))
     (λ l k. (refl, action-ok (field s portAt 2))) (λ l k. (refl, refl))
-
-field-range : (s : List ℕ) (at k : ℕ) → AreBytes s → at + k ≤ length s → field s at k < 256 ^ k
-unfolding field
-field-range s at k b h =
-    let l : length (take k (drop at s)) ≡ k = length-take-le k (drop at s) (simp length-drop (omega arith)) in
-    rw l at (num-lt (take k (drop at s)) (bytes-take k (drop at s) (bytes-drop at s b)))
 
 -- what is read has numbers that fit their fields
 pub decode-range : (end : End) (s : List ℕ) → AreBytes s → numberOf (decode end s) ≡ 0 → InRange (decode end s)

@@ -12,10 +12,11 @@ use borrow.Author.Tests.{ltb-true, leb-true, lt-ltb}
 use Rattle.answer.proofs.Bools.{and-join, and-parts}
 use Rattle.lists.specs.Arrays.{everyTail, every}
 use Rattle.lists.specs.Bytes.{be, AreBytes}
+use Rattle.lists.proofs.Tails.{every-take, every-drop}
 use Rattle.flow.specs.Rules.{ruleKey, prefixOk}
 use Rattle.playbook.specs.Limits.{maxPlans, maxChanges, switchCount, planSize, changeSize, endSize}
 use Rattle.playbook.specs.Books.{meaning}
-use Rattle.playbook.specs.Printing.{planBytes, changeBytes, changesBytes, plansBytes, bytesOf}
+use Rattle.playbook.specs.Printing.{planBytes, changeBytes, changesBytes, plansBytes, bytesOf, InRange}
 use Rattle.playbook.specs.Reading.{readWhole}
 use Rattle.playbook.specs.Storing.{spans, changeOk, storedOk}
 use Rattle.playbook.specs.declared.Change.{Change}
@@ -23,8 +24,7 @@ use Rattle.playbook.specs.declared.Outcome.{Outcome}
 use Rattle.playbook.specs.declared.Plan.{Plan}
 use Rattle.playbook.specs.declared.Playbook.{Playbook}
 use Rattle.playbook.proofs.Kept.{stored-limits, read-stored}
-use Rattle.playbook.proofs.Listed.{every-take, every-drop}
-use Rattle.playbook.proofs.Printed.{InRange, printed-length, print-read}
+use Rattle.playbook.proofs.Printed.{printed-length, print-read}
 use Rattle.playbook.proofs.Spans.{span-parts}
 
 -- stored exactly if reading some bytes gives it

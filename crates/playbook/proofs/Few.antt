@@ -1,16 +1,16 @@
 -- The different prefixes with lengths of the changes on a switch: they grow with the changes, and a stored playbook has
 -- few on each switch, so that a table that its changes make has room. Assumes nothing.
-use mathlib.Core.Path.{_≡_, refl, ap}
+use mathlib.Core.Path.{_≡_, refl}
 use mathlib.Core.List.{List, [], _∷_, _++_, append-nil}
-use mathlib.Core.Bool.{Bool, true, not, and-false}
+use mathlib.Core.Bool.{true, and-false}
 use Prim.Native.Nat.{ℕ, zero, suc, _≤_, _<_}
 use native.Mathlib.Omega.{arith}
 use lib.Dec.{leb, eqb}
 use lib.ListN.{length, getD}
 use borrow.Author.Tests.{leb-true, le-leb, eq-eqb, ne-eqb}
-use Rattle.answer.proofs.Bools.{by-bool, by-eq, by-or, tf, and-join, and-parts, or-left, or-right, is-false}
-use Rattle.lists.specs.Kinds.{among, different, kinds}
-use Rattle.lists.proofs.Pigeonhole.{lasts, length-lasts, pigeonhole}
+use Rattle.answer.proofs.Bools.{by-bool, by-eq, tf, and-join, and-parts, or-left, or-right}
+use Rattle.lists.specs.Kinds.{among, different}
+use Rattle.lists.proofs.Pigeonhole.{pigeonhole, kinds-append}
 use Rattle.flow.specs.Rules.{Key, ruleKey, sameKey, wellFormed}
 use Rattle.flow.specs.declared.Entry.{Entry}
 use Rattle.flow.specs.declared.Rule.{Rule}
@@ -18,58 +18,30 @@ use Rattle.flow.proofs.Order.{key-sound, key-mine}
 use Rattle.flow.proofs.Kept.{Ordered}
 use Rattle.flow.proofs.Keys.{Within, Takes, takes}
 use Rattle.playbook.specs.Limits.{maxKeys, switchCount}
-use Rattle.playbook.specs.Books.{Book, meaning, keysOn, kindsOn}
+use Rattle.playbook.specs.Books.{Book, meaning, isOn, keysOn, kindsOn}
 use Rattle.playbook.specs.Storing.{fewKeysBelow, bookOk, storedOk}
 use Rattle.playbook.specs.declared.Change.{Change}
 use Rattle.playbook.specs.declared.Playbook.{Playbook}
 
-module _ {A : Type 0} (eq : A → A → Bool) where
-  among-append : (k : A) (l m : List A) → among eq k l ≡ true → among eq k (l ++ m) ≡ true
-  unfolding among
-  among-append k [] m h = tf h refl
-  among-append k (x ∷ l) m h =
-      by-or (eq x k) _ h (or-left (eq x k) _) (λ e. or-right (eq x k) _ (among-append k l m e))
-
-  -- the last of each kind are members, and different
-  lasts-among : (k : A) (l : List A) → among eq k (lasts eq l) ≡ true → among eq k l ≡ true
-  unfolding among lasts
-  lasts-among k [] h = h
-  lasts-among k (x ∷ l) h =
-      by-bool (among eq x l) (λ b. or-right (eq x k) _ (lasts-among k l (rw b at h)))
-      (λ b. by-or (eq x k) (among eq k (lasts eq l)) (rw b at h) (or-left (eq x k) _)
-      (λ e. or-right (eq x k) _ (lasts-among k l e)))
-
-  lasts-different : (l : List A) → different eq (lasts eq l) ≡ true
-  unfolding different lasts
-  lasts-different [] = refl
-  lasts-different (x ∷ l) =
-      by-bool (among eq x l) (λ b. rw b (lasts-different l))
-      (λ b. rw b (and-join (not (among eq x (lasts eq l))) _
-      (ap not (is-false _ (λ e. tf (lasts-among x l e) b))) (lasts-different l)))
-
-  module _ (sound : (x y : A) → eq x y ≡ true → x ≡ y) (mine : (x : A) → eq x x ≡ true) where
-    -- more members are no fewer kinds
-    pub kinds-append : (l m : List A) → kinds eq l ≤ kinds eq (l ++ m)
-    kinds-append l m =
-        let n = pigeonhole eq sound mine (lasts eq l) (l ++ m) (lasts-different l)
-        (λ k e. among-append k l m (lasts-among k l e)) in
-        omega (arith, length-lasts eq l)
-
-pub keys-append : (s : ℕ) (cs ds : List Change) → keysOn s (cs ++ ds) ≡ keysOn s cs ++ keysOn s ds
+keys-append : (s : ℕ) (cs ds : List Change) → keysOn s (cs ++ ds) ≡ keysOn s cs ++ keysOn s ds
 unfolding keysOn
 keys-append s [] ds = refl
 keys-append s (c ∷ cs) ds =
     let ih = keys-append s cs ds in
-    by-bool (eqb (c .switch) s) (λ e. rw (e, ih)) (λ e. rw (e, ih))
+    by-bool (isOn s c) (λ e. rw (e, ih)) (λ e. rw (e, ih))
 
 pub kinds-grow : (s : ℕ) (cs ds : List Change) → kindsOn s cs ≤ kindsOn s (cs ++ ds)
 kinds-grow s cs ds = rw keys-append (kinds-append sameKey key-sound key-mine (keysOn s cs) (keysOn s ds))
 
--- a change on another switch
-pub kinds-other : (s : ℕ) (cs : List Change) (c : Change) → (c .switch ≡ s → ⊥)
-    → kindsOn s (cs ++ c ∷ []) ≡ kindsOn s cs
+-- a change more on the switch, and on another
+pub keys-on : (s : ℕ) (cs : List Change) (c : Change) → c .switch ≡ s
+    → keysOn s (cs ++ c ∷ []) ≡ keysOn s cs ++ ruleKey (c .rule) ∷ []
 unfolding keysOn
-kinds-other s cs c ne = rw (keys-append s cs (c ∷ []), ne-eqb (c .switch) s ne, append-nil)
+keys-on s cs c e = rw (keys-append s cs (c ∷ []), eq-eqb (c .switch) s e)
+
+pub keys-off : (s : ℕ) (cs : List Change) (c : Change) → (c .switch ≡ s → ⊥) → keysOn s (cs ++ c ∷ []) ≡ keysOn s cs
+unfolding keysOn
+keys-off s cs c ne = rw (keys-append s cs (c ∷ []), ne-eqb (c .switch) s ne, append-nil)
 
 -- each switch below n
 pub few-below : (n s : ℕ) (cs : List Change) → fewKeysBelow n cs ≡ true → s < n → kindsOn s cs ≤ maxKeys
@@ -89,14 +61,14 @@ pub few-change : (n : ℕ) (cs : List Change) (c : Change) → fewKeysBelow n cs
     → kindsOn (c .switch) (cs ++ c ∷ []) ≤ maxKeys → fewKeysBelow n (cs ++ c ∷ []) ≡ true
 few-change n cs c h k =
     few-all n (cs ++ c ∷ [])
-    (λ s l. by-eq (c .switch) s (λ e. rw (← e) k) (λ ne. rw (kinds-other s cs c ne) (few-below n s cs h l)))
+    (λ s l. by-eq (c .switch) s (λ e. rw (← e) k) (λ ne. rw (keys-off s cs c ne) (few-below n s cs h l)))
 
 -- the bound in a book within its limits, and in a stored playbook
 book-few : (b : Book) → bookOk b ≡ true → fewKeysBelow switchCount (b .changes) ≡ true
 unfolding bookOk
 book-few b h = by-bool _ (λ e. e) (λ e. tf h (rw (e, and-false)))
 
-pub book-kinds : (b : Book) (s : ℕ) → bookOk b ≡ true → s < switchCount → kindsOn s (b .changes) ≤ maxKeys
+book-kinds : (b : Book) (s : ℕ) → bookOk b ≡ true → s < switchCount → kindsOn s (b .changes) ≤ maxKeys
 book-kinds b s h l = few-below switchCount s (b .changes) (book-few b h) l
 
 pub stored-kinds : (p : Playbook) (s : ℕ) → storedOk p ≡ true → s < switchCount

@@ -2,52 +2,24 @@
 -- and how many changes each switch has. Assumes nothing.
 use mathlib.Core.Path.{_≡_, refl, sym, ap, _∙_}
 use mathlib.Core.List.{List, [], _∷_, _++_}
-use mathlib.Core.Bool.{Bool, true, false, _&&_, _||_}
+use mathlib.Core.Bool.{true, false, _&&_}
 use Prim.Native.Nat.{ℕ, zero, suc, _+_, _-_, _≤_, _<_}
 use native.Mathlib.Numerals.{add-one}
 use native.Mathlib.Omega.{arith}
 use lib.Dec.{leb, eqb}
-use lib.ListN.{length, take, drop, set, getD, replicate, length-set, getD-replicate}
+use lib.ListN.{length, take, drop, set, getD, replicate, length-set, length-append, getD-replicate}
 use lib.Seq.{take-suc-set, getD-set-same, getD-set-other}
-use borrow.Author.Tests.{eqb-true, eq-eqb, ne-eqb, le-leb, lt-leb}
+use borrow.Author.Tests.{eqb-true, eq-eqb, le-leb, lt-leb}
 use Rattle.answer.proofs.Bools.{by-bool, by-eq, and-join, same-test}
 use Rattle.lists.specs.Kinds.{among, kinds}
+use Rattle.lists.proofs.Members.{among-snoc, kinds-known, kinds-new, kinds-more}
 use Rattle.flow.specs.Rules.{Key, ruleKey, sameKey}
 use Rattle.flow.proofs.Order.{key-sound}
 use Rattle.playbook.specs.Limits.{maxKeys, switchCount}
 use Rattle.playbook.specs.Books.{keysOn, kindsOn}
 use Rattle.playbook.specs.Storing.{fewKeysBelow, keyNumber, Counted}
 use Rattle.playbook.specs.declared.Change.{Change}
-
-module _ {A : Type 0} (eq : A → A → Bool) where
-  kinds-known : (x : A) (l : List A) → among eq x l ≡ true → kinds eq (x ∷ l) ≡ kinds eq l
-  unfolding kinds
-  kinds-known x l e = rw e
-
-  kinds-new : (x : A) (l : List A) → among eq x l ≡ false → kinds eq (x ∷ l) ≡ suc (kinds eq l)
-  unfolding kinds
-  kinds-new x l e = rw e
-
-  kinds-more : (x : A) (l : List A) → kinds eq l ≤ kinds eq (x ∷ l)
-  kinds-more x l =
-      by-bool (among eq x l) (λ e. rw (kinds-known x l e) (omega arith)) (λ e. rw (kinds-new x l e) (omega arith))
-
-  pub kinds-few : (l : List A) → kinds eq l ≤ length l
-  unfolding kinds
-  kinds-few [] = omega arith
-  kinds-few (x ∷ xs) =
-      let h = kinds-few xs in
-      by-bool (among eq x xs) (λ e. rw e (omega arith)) (λ e. rw e (omega arith))
-
-  among-snoc : (x y : A) (l : List A) → among eq x (l ++ y ∷ []) ≡ (eq y x || among eq x l)
-  unfolding among
-  among-snoc x y [] = refl
-  among-snoc x y (z ∷ zs) = rw (among-snoc x y zs) (swap (eq z x) (eq y x) (among eq x zs))
-    where
-      swap : (a b c : Bool) → (a || (b || c)) ≡ (b || (a || c))
-      swap true true c = refl
-      swap true false c = refl
-      swap false b c = refl
+use Rattle.playbook.proofs.Few.{keys-on, keys-off}
 
 -- a key's number tells it from the others, since a length is a byte
 number-same : (j k : Key) → j .1 < 256 → k .1 < 256 → eqb (keyNumber j) (keyNumber k) ≡ sameKey j k
@@ -141,26 +113,14 @@ pub tally-room : {counts : List ℕ} {cs : List Change} → Tally counts cs → 
     → getD counts s 0 ≤ length cs
 tally-room {cs} t s h = omega (arith, t .each s h, keys-length s cs)
 
--- a change more at the end, on a switch and on none
-keys-on : (s : ℕ) (cs : List Change) (c : Change) → c .switch ≡ s
-    → length (keysOn s (cs ++ c ∷ [])) ≡ length (keysOn s cs) + 1
-unfolding keysOn
-keys-on s [] c e = rw (eq-eqb (c .switch) s e)
-keys-on s (d ∷ ds) c e =
-    by-bool (eqb (d .switch) s) (λ t. rw (t, keys-on s ds c e) (omega arith)) (λ t. rw t (keys-on s ds c e))
-
-keys-off : (s : ℕ) (cs : List Change) (c : Change) → (c .switch ≡ s → ⊥) → keysOn s (cs ++ c ∷ []) ≡ keysOn s cs
-unfolding keysOn
-keys-off s [] c n = rw (ne-eqb (c .switch) s n)
-keys-off s (d ∷ ds) c n = rw (keys-off s ds c n)
-
+-- a change more at the end, on a known switch and on none
 module _ {counts next : List ℕ} {cs : List Change} (t : Tally counts cs) (c : Change) where
   pub tally-on : c .switch < switchCount → next ≡ set counts (c .switch) (getD counts (c .switch) 0 + 1)
       → Tally next (cs ++ c ∷ [])
   tally-on k e = record {
     full = rw (e, length-set) (t .full);
     each = λ s h. rw e (by-eq (c .switch) s
-        (λ q. rw (keys-on s cs c q, q, getD-set-same counts s _ 0 (omega arith), t .each s h))
+        (λ q. rw (keys-on s cs c q, length-append, q, getD-set-same counts s _ 0 (omega arith), t .each s h))
         (λ n. rw (keys-off s cs c n, getD-set-other counts (c .switch) s _ 0 (λ q. n (sym q))) (t .each s h)));
   }
 

@@ -2,28 +2,27 @@
 -- reading leaves, refused or not, is stored; and a stored store is what it means. Assumes nothing.
 use mathlib.Core.Path.{_≡_, refl, sym, ap, _∙_}
 use mathlib.Core.List.{List, [], _∷_, _++_, map, map-append}
-use mathlib.Core.Bool.{Bool, true, false, not, _&&_, _||_, and-true, and-false, and-assoc, or-false, or-assoc}
-use Prim.Native.Nat.{ℕ, zero, suc, _+_, _-_, _≤_, _<_}
+use mathlib.Core.Bool.{Bool, true, false, not, _&&_, and-false}
+use Prim.Native.Nat.{ℕ, zero, suc, _+_, _≤_, _<_}
 use native.Mathlib.Omega.{arith}
 use lib.Dec.{ltb, leb, eqb}
-use lib.ListN.{length, take, drop, length-append, length-drop, take-append-drop}
-use lib.Seq.{length-take-le, drop-append-seam}
-use borrow.Author.Tests.{ltb-true, leb-true, eqb-true, lt-ltb, le-leb, eq-eqb}
+use lib.ListN.{length, drop, length-append}
+use borrow.Author.Tests.{ltb-true, leb-true, eqb-true, lt-ltb, le-leb}
 use Rattle.answer.specs.Ask.{Question, reply, firstNo}
-use Rattle.answer.proofs.Asked.{passed, asked, none-asked}
-use Rattle.answer.proofs.Bools.{by-bool, tf, and-join, and-parts, same-test}
-use Rattle.lists.specs.Arrays.{pad, everyTail, every}
-use Rattle.lists.specs.Kinds.{among, different, kinds}
-use Rattle.lists.proofs.Padding.{pad-split}
-use Rattle.lists.proofs.Tails.{every-replicate, replicate-every}
-use Rattle.flow.specs.Rules.{sameAction, sameKey, ruleKey, wellFormed}
+use Rattle.answer.proofs.Bools.{by-bool, tf, and-join, and-parts}
+use Rattle.lists.specs.Arrays.{everyTail, every}
+use Rattle.lists.specs.Kinds.{different, kinds}
+use Rattle.lists.proofs.Members.{different-snoc}
+use Rattle.lists.proofs.Padding.{pad-unused, as-padded}
+use Rattle.lists.proofs.Tails.{every-snoc}
+use Rattle.flow.specs.Rules.{sameAction, sameKey, ruleKey}
 use Rattle.flow.specs.declared.Action.{Action}
 use Rattle.flow.specs.declared.Action.the-variants.{Remove, Set}
-use Rattle.flow.proofs.Order.{key-sound}
-use Rattle.playbook.specs.Limits.{maxPlans, maxChanges, maxOfPlan, maxKeys, switchCount}
+use Rattle.flow.proofs.Order.{key-sound, key-mine}
+use Rattle.playbook.specs.Limits.{maxPlans, maxChanges, maxKeys, switchCount}
 use Rattle.playbook.specs.Books.{Book, noPlans, emptyPlan, emptyRule, emptyChange, meaning, storeOf}
 use Rattle.playbook.specs.Books.{Trigger, triggerOf, sameTrigger, hasTrigger, keysOn, kindsOn}
-use Rattle.playbook.specs.Books.{lastCount, countLast, withPlan, withChange, planQuestions, changeQuestions}
+use Rattle.playbook.specs.Books.{countLast, withPlan, withChange, planQuestions, changeQuestions}
 use Rattle.playbook.specs.Reading.{refusal, follow, readFrom, readFirst, readWhole}
 use Rattle.playbook.specs.Records.{recordAt}
 use Rattle.playbook.specs.Storing.{spans, changeOk, fewKeysBelow, bookOk, planEmpty, changeEmpty, storedOk}
@@ -34,6 +33,7 @@ use Rattle.playbook.specs.declared.Playbook.{Playbook}
 use Rattle.playbook.specs.declared.Record.{Record}
 use Rattle.playbook.specs.declared.Record.the-variants.{Opens, Lists, Ends, Refused}
 use Rattle.playbook.proofs.Few.{kinds-grow, few-below, few-all, few-change}
+use Rattle.playbook.proofs.Questions.{plan-passes, plan-asked, change-passes, change-asked}
 use Rattle.playbook.proofs.Sound.{Fits, Sound, meaning-store, count-length}
 use Rattle.playbook.proofs.Spans.{span-some, span-plan, span-plan-back, span-change, span-change-back}
 
@@ -90,10 +90,6 @@ stored-limits p h = book-parts (meaning p) (stored-parts p h .book)
 book-fits : (b : Book) → bookOk b ≡ true → Fits b
 book-fits b h = let l = book-parts b h in record { plans = l .plans; changes = l .changes }
 
-padded-unused : {A : Type 0} (f : A → Bool) (z : A) (n : ℕ) (l : List A) → f z ≡ true → length l ≤ n
-    → every f (drop (length l) (pad n z l)) ≡ true
-padded-unused f z n l e h = rw (pad-split n z l h, drop-append-seam) (replicate-every f z (n - length l) e)
-
 pub book-stored : (b : Book) → bookOk b ≡ true → storedOk (storeOf b) ≡ true
 unfolding storedOk
 book-stored b h =
@@ -102,9 +98,9 @@ book-stored b h =
       le-leb _ _ (fits .plans),
       le-leb _ _ (fits .changes),
       ap bookOk (meaning-store b fits) ∙ h,
-      padded-unused planEmpty emptyPlan maxPlans (b .plans) refl (fits .plans),
+      pad-unused planEmpty emptyPlan maxPlans (b .plans) refl (fits .plans),
     )
-    (padded-unused changeEmpty emptyChange maxChanges (b .changes) refl (fits .changes))
+    (pad-unused changeEmpty emptyChange maxChanges (b .changes) refl (fits .changes))
 
 -- only the empty plan and change pass the test of an unused place
 only-empty-plan : (q : Plan) → planEmpty q ≡ true → q ≡ emptyPlan
@@ -136,17 +132,6 @@ only-empty-change c h =
       rule = record { prefix = k i .0; length = k i .1; action = act i };
     }
 
--- an array that is z past its first n elements
-as-padded : {A : Type 0} (f : A → Bool) (z : A) → ((x : A) → f x ≡ true → x ≡ z) → {m : ℕ} (n : ℕ) (l : List A)
-    → length l ≡ m → n ≤ m → every f (drop n l) ≡ true → (l ≡ pad m z (take n l)) × (n ≡ length (take n l))
-as-padded f z only {m} n l e h unused =
-    let used : length (take n l) ≡ n = length-take-le n l (omega arith) in
-    let free : length (drop n l) ≡ m - length (take n l) = simp length-drop (omega arith) in (
-      sym (take-append-drop n l)
-          ∙ rw (every-replicate f z only (drop n l) unused, free, pad-split m z (take n l) (omega arith)),
-      sym used,
-    )
-
 -- a stored store is what it means
 pub stored-sound : (p : Playbook) → length (p .plans) ≡ maxPlans → length (p .changes) ≡ maxChanges → storedOk p ≡ true
     → Sound p
@@ -157,50 +142,18 @@ stored-sound p n m h =
     as-padded changeEmpty emptyChange only-empty-change _ (p .changes) m (s .listed) (s .changes-unused) in
     λ i. record { plans = plans .0 i; planned = plans .1 i; changes = changes .0 i; listed = changes .1 i }
 
--- the test of triggers passes for equal ones, and for no others
+-- triggers are pairs of numbers as keys are, and tested for equality alike
 pub trigger-sound : (t u : Trigger) → sameTrigger t u ≡ true → t ≡ u
-trigger-sound t u h =
-    let e = and-parts (eqb (t .0) (u .0)) _ h in
-    λ i. (eqb-true (t .0) (u .0) (e .0) i, eqb-true (t .1) (u .1) (e .1) i)
+trigger-sound = key-sound
 
 pub trigger-mine : (t : Trigger) → sameTrigger t t ≡ true
-trigger-mine t = and-join (eqb (t .0) (t .0)) _ (eq-eqb (t .0) (t .0) refl) (eq-eqb (t .1) (t .1) refl)
-
-trigger-turn : (t u : Trigger) → sameTrigger t u ≡ true → sameTrigger u t ≡ true
-trigger-turn t u h = ap (λ (v : Trigger). sameTrigger v t) (sym (trigger-sound t u h)) ∙ trigger-mine t
-
--- one more at the end of a list
-every-snoc : {A : Type 0} (f : A → Bool) (l : List A) (x : A) → every f (l ++ x ∷ []) ≡ (every f l && f x)
-unfolding everyTail
-every-snoc f [] x = and-true (f x)
-every-snoc f (y ∷ l) x = rw (every-snoc f l x) (sym (and-assoc (f y) (every f l) (f x)))
-
-among-snoc : (t u : Trigger) (ts : List Trigger)
-    → among sameTrigger t (ts ++ u ∷ []) ≡ (among sameTrigger t ts || sameTrigger u t)
-unfolding among
-among-snoc t u [] = or-false (sameTrigger u t)
-among-snoc t u (v ∷ ts) =
-    rw (among-snoc t u ts) (sym (or-assoc (sameTrigger v t) (among sameTrigger t ts) (sameTrigger u t)))
-
-different-snoc : (ts : List Trigger) (t : Trigger)
-    → different sameTrigger (ts ++ t ∷ []) ≡ (different sameTrigger ts && not (among sameTrigger t ts))
-unfolding different among
-different-snoc [] t = refl
-different-snoc (u ∷ ts) t =
-    rw (among-snoc u t ts, different-snoc ts t, same-test _ _ (trigger-turn t u) (trigger-turn u t))
-    (go (among sameTrigger u ts) (sameTrigger u t) (different sameTrigger ts) (among sameTrigger t ts))
-  where
-    go : (a b c d : Bool) → (not (a || b) && (c && not d)) ≡ (not a && c && not (b || d))
-    go true b c d = refl
-    go false true true d = refl
-    go false true false d = refl
-    go false false c d = refl
+trigger-mine = key-mine
 
 -- a plan more brings its trigger, a change more none
 plan-triggers : (b : Book) (t : Trigger)
     → different sameTrigger (map triggerOf (withPlan b t .plans))
     ≡ (different sameTrigger (map triggerOf (b .plans)) && not (hasTrigger t (b .plans)))
-plan-triggers b t = rw map-append (different-snoc (map triggerOf (b .plans)) t)
+plan-triggers b t = rw map-append (different-snoc sameTrigger trigger-mine trigger-sound (map triggerOf (b .plans)) t)
 
 count-triggers : (qs : List Plan) → map triggerOf (countLast qs) ≡ map triggerOf qs
 unfolding countLast
@@ -216,14 +169,12 @@ pub plan-kept : (b : Book) (t : Trigger) → bookOk b ≡ true → firstNo (plan
     → bookOk (withPlan b t) ≡ true
 plan-kept b t h pass =
     let l = book-parts b h in
-    let known = passed 11 (ltb (t .0) switchCount) _ pass in
-    let new = passed 34 (not (hasTrigger t (b .plans))) _ (known .1) in
-    let room = ltb-true (length (b .plans)) maxPlans (passed 35 _ [] (new .1) .0) in
+    let q = plan-passes b t pass in
     book-join (withPlan b t) (record {
       plans = simp length-append (omega arith);
       changes = l .changes;
-      spanned = span-plan 0 (length (b .changes)) (b .plans) t (ltb-true _ _ (known .0)) (l .spanned);
-      triggers = plan-triggers b t ∙ and-join _ _ (l .triggers) (new .0);
+      spanned = span-plan 0 (length (b .changes)) (b .plans) t (q .known) (l .spanned);
+      triggers = plan-triggers b t ∙ and-join _ _ (l .triggers) (q .new);
       rules = l .rules;
       keys = l .keys;
     })
@@ -243,8 +194,7 @@ plan-back b t h =
         rules = l .rules;
         keys = l .keys;
       }),
-      asked _ _ 12 _ _ (lt-ltb _ _ (span .0)) ∙ asked _ _ 35 _ _ (new .1) ∙ asked _ _ 36 _ _ (lt-ltb _ _ room)
-          ∙ none-asked _ _,
+      plan-asked b t (record { known = span .0; new = new .1; room = room }),
     )
 
 -- and so does a change
@@ -252,21 +202,16 @@ pub change-kept : (b : Book) (c : Change) → bookOk b ≡ true → firstNo (cha
     → bookOk (withChange b c) ≡ true
 change-kept b c h pass =
     let l = book-parts b h in
-    let known = passed 11 (ltb (c .switch) switchCount) _ pass in
-    let some = passed 33 (ltb 0 (length (b .plans))) _ (known .1) in
-    let rule = passed 14 (wellFormed (c .rule)) _ (some .1) in
-    let room = passed 35 (ltb (length (b .changes)) maxChanges && ltb (lastCount (b .plans)) maxOfPlan) _ (rule .1) in
-    let few = passed 36 (leb (kindsOn (c .switch) (b .changes ++ c ∷ [])) maxKeys) [] (room .1) in
-    let free = and-parts (ltb (length (b .changes)) maxChanges) _ (room .0) in
+    let q = change-passes b c pass in
     book-join (withChange b c) (record {
       plans = rw count-length (l .plans);
-      changes = omega (arith, change-length b c, ltb-true (length (b .changes)) maxChanges (free .0));
-      spanned =
-          rw (change-length b c)
-          (span-change 0 _ (b .plans) (ltb-true _ _ (some .0)) (ltb-true _ _ (free .1)) (l .spanned));
+      changes = omega (arith, change-length b c, q .room);
+      spanned = rw (change-length b c) (span-change 0 _ (b .plans) (q .some) (q .short) (l .spanned));
       triggers = rw count-triggers (l .triggers);
-      rules = every-snoc changeOk (b .changes) c ∙ and-join _ _ (l .rules) (and-join _ _ (known .0) (rule .0));
-      keys = few-change switchCount (b .changes) c (l .keys) (leb-true _ _ (few .0));
+      rules =
+          every-snoc changeOk (b .changes) c
+          ∙ and-join _ _ (l .rules) (and-join _ _ (lt-ltb _ _ (q .known)) (q .formed));
+      keys = few-change switchCount (b .changes) c (l .keys) (q .few);
     })
 
 pub change-back : (b : Book) (c : Change) → bookOk (withChange b c) ≡ true
@@ -279,6 +224,7 @@ change-back b c h =
     let span = span-change-back 0 (length (b .changes)) (b .plans) some (rw n at (l .spanned)) in
     let rules = and-parts (every changeOk (b .changes)) _ (sym (every-snoc changeOk (b .changes) c) ∙ l .rules) in
     let rule = and-parts (ltb (c .switch) switchCount) _ (rules .1) in
+    let known = ltb-true (c .switch) switchCount (rule .0) in
     let room : length (b .changes) < maxChanges = omega (arith, l .changes) in
     let few : (s : ℕ) → s < switchCount → kindsOn s (b .changes ++ c ∷ []) ≤ maxKeys =
     λ s k. few-below switchCount s _ (l .keys) k in (
@@ -291,9 +237,14 @@ change-back b c h =
         keys = few-all switchCount (b .changes)
             (λ s k. omega (arith, kinds-grow s (b .changes) (c ∷ []), few s k));
       }),
-      asked _ _ 12 _ _ (rule .0) ∙ asked _ _ 34 _ _ (lt-ltb _ _ some) ∙ asked _ _ 15 _ _ (rule .1)
-          ∙ asked _ _ 36 _ _ (and-join _ _ (lt-ltb _ _ room) (lt-ltb _ _ (span .0)))
-          ∙ asked _ _ 37 _ _ (le-leb _ _ (few (c .switch) (ltb-true _ _ (rule .0)))) ∙ none-asked _ _,
+      change-asked b c (record {
+        known = known;
+        some = some;
+        formed = rule .1;
+        room = room;
+        short = span .0;
+        few = few (c .switch) known;
+      }),
     )
 
 -- what holds of every refusal, and of what follows where every answer is yes, holds of the reply
@@ -312,21 +263,21 @@ none-ok = refl
 abbrev Left : Outcome → Type 0
 Left r = storedOk (r .playbook) ≡ true
 
-none-left : (k : ℕ) → Left (refusal k)
-none-left k = book-stored noPlans none-ok
+refusal-left : (k : ℕ) → Left (refusal k)
+refusal-left k = book-stored noPlans none-ok
 
 follow-left : (r : Record) (b : Book) (end : Outcome) (on : ℕ → Book → Outcome) → bookOk b ≡ true → Left end
     → ((skip : ℕ) (next : Book) → bookOk next ≡ true → Left (on skip next)) → Left (follow r b end on)
-follow-left (Refused k) b end on h l f = none-left k
+follow-left (Refused k) b end on h l f = refusal-left k
 follow-left Ends b end on h l f = l
 follow-left (Opens s c) b end on h l f =
-    reply-keeps Left (planQuestions b (s, c)) refusal _ none-left (λ pass. f _ _ (plan-kept b (s, c) h pass))
+    reply-keeps Left (planQuestions b (s, c)) refusal _ refusal-left (λ pass. f _ _ (plan-kept b (s, c) h pass))
 follow-left (Lists c) b end on h l f =
-    reply-keeps Left (changeQuestions b c) refusal _ none-left (λ pass. f _ _ (change-kept b c h pass))
+    reply-keeps Left (changeQuestions b c) refusal _ refusal-left (λ pass. f _ _ (change-kept b c h pass))
 
 read-left : (skip : ℕ) (s : List ℕ) (used : ℕ) (b : Book) → bookOk b ≡ true → Left (readFrom skip s used b)
 unfolding readFrom
-read-left skip [] used b h = none-left 30
+read-left skip [] used b h = refusal-left 30
 read-left (suc skip) (x ∷ xs) used b h = read-left skip xs (used + 1) b h
 read-left zero (x ∷ xs) used b h =
     follow-left (recordAt (x ∷ xs)) b _ _ h (book-stored b h) (λ skip next k. read-left skip xs (used + 1) next k)
@@ -338,6 +289,6 @@ read-first-stored s = read-left 0 s 0 noPlans none-ok
 pub read-stored : (s : List ℕ) → storedOk (readWhole s .playbook) ≡ true
 read-stored s =
     let first = read-first-stored s in
+    let all = eqb (readFirst s .used) (length s) in
     by-bool (eqb (readFirst s .answer) 0)
-    (λ e. rw e (reply-keeps Left ((38, eqb (readFirst s .used) (length s)) ∷ []) refusal _ none-left (λ pass. first)))
-    (λ e. rw e first)
+    (λ e. rw e (reply-keeps Left ((38, all) ∷ []) refusal _ refusal-left (λ pass. first))) (λ e. rw e first)

@@ -2,15 +2,17 @@
 -- from all; and which plan a trigger finds. Assumes nothing.
 use mathlib.Core.Path.{_≡_, refl, sym, ap, _∙_}
 use mathlib.Core.List.{List, [], _∷_, map}
-use mathlib.Core.Bool.{Bool, true, false, not}
+use mathlib.Core.Bool.{true, false, not}
 use Prim.Native.Nat.{ℕ, zero, suc, _+_, _≤_, _<_}
 use native.Mathlib.Omega.{arith}
-use lib.ListN.{length, getD, take, drop, length-take, length-drop}
+use lib.ListN.{length, getD, drop, length-take, length-drop, length-map, List·getD-map}
 use lib.Seq.{getD-take, getD-drop, length-take-le}
 use borrow.Author.Tests.{not-true}
-use Rattle.answer.proofs.Bools.{by-bool, tf, and-join, and-parts, or-left, or-right, or-none, is-false}
-use Rattle.lists.specs.Arrays.{everyTail, every}
+use Rattle.answer.proofs.Bools.{by-bool, tf, and-parts, or-none, is-false}
+use Rattle.lists.specs.Arrays.{every}
 use Rattle.lists.specs.Kinds.{among, different}
+use Rattle.lists.proofs.Members.{among-at}
+use Rattle.lists.proofs.Tails.{every-at, every-take, every-drop}
 use Rattle.flow.specs.Rules.{ruleKey, sameKey}
 use Rattle.playbook.specs.Limits.{maxOfPlan}
 use Rattle.playbook.specs.Books.{emptyChange, meaning, Trigger, triggerOf, sameTrigger, hasTrigger}
@@ -23,34 +25,6 @@ use Rattle.playbook.specs.declared.Playbook.{Playbook}
 use Rattle.playbook.proofs.Few.{change-among}
 use Rattle.playbook.proofs.Kept.{stored-limits, trigger-sound, trigger-mine}
 use Rattle.playbook.proofs.Spans.{PlanFits, plan-fits}
-
-module _ {A : Type 0} (f : A → Bool) where
-  -- a test of every element: of each one, of a beginning and of a rest
-  pub every-at : (l : List A) (i : ℕ) (z : A) → every f l ≡ true → i < length l → f (getD l i z) ≡ true
-  unfolding everyTail
-  every-at [] i z h n = absurd (omega arith)
-  every-at (x ∷ l) zero z h n = and-parts (f x) (every f l) h .0
-  every-at (x ∷ l) (suc i) z h n = every-at l i z (and-parts (f x) (every f l) h .1) (omega arith)
-
-  pub every-all : (l : List A) (z : A) → ((i : ℕ) → i < length l → f (getD l i z) ≡ true) → every f l ≡ true
-  unfolding everyTail
-  every-all [] z h = refl
-  every-all (x ∷ l) z h =
-      and-join (f x) _ (h 0 (omega arith)) (every-all l z (λ i n. h (suc i) (omega arith)))
-
-  pub every-take : (n : ℕ) (l : List A) → every f l ≡ true → every f (take n l) ≡ true
-  unfolding everyTail
-  every-take zero l h = refl
-  every-take (suc n) [] h = refl
-  every-take (suc n) (x ∷ l) h =
-      let t = and-parts (f x) (every f l) h in
-      and-join (f x) _ (t .0) (every-take n l (t .1))
-
-  pub every-drop : (n : ℕ) (l : List A) → every f l ≡ true → every f (drop n l) ≡ true
-  unfolding everyTail
-  every-drop zero l h = h
-  every-drop (suc n) [] h = refl
-  every-drop (suc n) (x ∷ l) h = every-drop n l (and-parts (f x) (every f l) h .1)
 
 -- a change that a plan has stands among all
 pub drawn : (q : Plan) (cs : List Change) (i : ℕ) (z : Change) → i < length (changesOf q cs)
@@ -125,10 +99,9 @@ no-changes p t h = ap (λ (q : Plan). changesOf q (meaning p .changes)) (no-plan
 
 -- a plan in the list is found by its trigger
 pub has-trigger : (qs : List Plan) (i : ℕ) (z : Plan) → i < length qs → hasTrigger (triggerOf (getD qs i z)) qs ≡ true
-unfolding among
-has-trigger [] i z h = absurd (omega arith)
-has-trigger (q ∷ qs) zero z h = or-left _ _ (trigger-mine (triggerOf q))
-has-trigger (q ∷ qs) (suc i) z h = or-right (sameTrigger (triggerOf q) _) _ (has-trigger qs i z (omega arith))
+has-trigger qs i z h =
+    ap (λ (t : Trigger). hasTrigger t qs) (sym (List·getD-map triggerOf qs i z))
+    ∙ among-at sameTrigger trigger-mine (map triggerOf qs) i (triggerOf z) (rw length-map h)
 
 pub plan-found : (qs : List Plan) (i : ℕ) (z : Plan) → different sameTrigger (map triggerOf qs) ≡ true → i < length qs
     → planOf (triggerOf (getD qs i z)) qs ≡ getD qs i z

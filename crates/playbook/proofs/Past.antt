@@ -5,13 +5,13 @@ use mathlib.Core.List.{List, [], _∷_}
 use Prim.Native.Nat.{ℕ, zero, suc, _+_, _-_, _≤_, _<_}
 use native.Mathlib.Nat.{add-zero}
 use native.Mathlib.Omega.{arith}
-use borrow.Author.Tests.{leb-true}
+use borrow.Author.Tests.{leb-true, le-leb}
 use lib.Dec.{leb, eqb}
-use lib.ListN.{length, getD, drop, length-drop, drop-of-length-le}
-use lib.Seq.{drop-cons, drop-drop}
+use lib.ListN.{length, drop, length-drop, drop-of-length-le}
+use lib.Seq.{drop-drop}
 use Rattle.lists.specs.Bytes.{byteAt}
 use Rattle.answer.specs.Ask.{Question, reply, firstNo, pick}
-use Rattle.answer.proofs.Asked.{Numbered, all-yes, some-no}
+use Rattle.answer.proofs.Asked.{none-asked, asked, Numbered, all-yes, some-no}
 use Rattle.playbook.specs.Limits.{planKind, changeKind, planSize, changeSize, endSize}
 use Rattle.playbook.specs.Books.{Book, meaning, Trigger, withPlan, withChange}
 use Rattle.playbook.specs.Books.{planQuestions, changeQuestions, taken, openPlan, listChange}
@@ -23,8 +23,15 @@ use Rattle.playbook.specs.declared.Playbook.{Playbook}
 use Rattle.playbook.specs.declared.Record.{Record}
 use Rattle.playbook.specs.declared.Record.the-variants.{Opens, Lists, Ends, Refused}
 use Rattle.playbook.specs.declared.Taken.{Taken}
-use Rattle.playbook.proofs.Sound.{Fits, Sound, sound-fits}
-use Rattle.playbook.proofs.Steps.{means, is-sound, answer-is, next-stored, plan-passed, change-passed}
+use Rattle.playbook.proofs.Sound.{Fits, Sound, means, is-sound, sound-fits}
+use Rattle.playbook.proofs.Steps.{answer-is, next-stored, plan-passed, change-passed}
+
+-- a record whose bytes are there
+pub whole-record : (l : List ℕ) (kind : ℕ) → byteAt l 0 ≡ kind → isKind kind ≡ true → sizeOf kind ≤ length l
+    → recordAt l ≡ recordOf kind l
+unfolding recordAt
+whole-record l kind first k n =
+    rw first (asked Refused _ 31 _ _ k ∙ asked Refused _ 30 _ _ (le-leb _ _ n) ∙ none-asked Refused _)
 
 -- how many bytes a record has; what is found at the front of bytes has no more than these
 abbrev bytesIn : Record → ℕ
@@ -62,52 +69,37 @@ past (suc k) (x ∷ xs) used b =
     past k xs (used + 1) b ∙ ap (λ (u : ℕ). readFrom 0 (drop k xs) u b) e
 
 -- where a byte is left, the record that it begins decides
-cons-follow : (l : List ℕ) (x : ℕ) (xs : List ℕ) (used : ℕ) (b : Book) → l ≡ x ∷ xs
+pub by-record : (l : List ℕ) (used : ℕ) (b : Book) (r : Record) → 0 < length l → recordAt l ≡ r
     → readFrom 0 l used b
-    ≡ follow (recordAt l) b (finished (used + 1) b) (λ skip next. readFrom skip xs (used + 1) next)
+    ≡ follow r b (finished (used + 1) b) (λ skip next. readFrom 0 (drop (suc skip) l) (used + suc skip) next)
 unfolding readFrom
-cons-follow l x xs used b e = rw e
+by-record [] used b r h e = absurd (omega arith)
+by-record (x ∷ xs) used b r h e =
+    let on : (skip : ℕ) (next : Book)
+    → readFrom skip xs (used + 1) next ≡ readFrom 0 (drop skip xs) (used + suc skip) next =
+    λ skip next. let u : used + 1 + skip ≡ used + suc skip = omega arith in
+    past skip xs (used + 1) next ∙ ap (λ (v : ℕ). readFrom 0 (drop skip xs) v next) u in
+    λ i. follow (e i) b (finished (used + 1) b) (λ skip next. on skip next i)
 
--- what is read from a place on
-abbrev pub rest : List ℕ → ℕ → Book → Outcome
-rest s at b = readFrom 0 (drop at s) at b
+-- what is read from a place on: nothing, or what the record there does
+abbrev pub readOn : List ℕ → ℕ → Book → Outcome
+readOn s at b = readFrom 0 (drop at s) at b
 
-module _ (s : List ℕ) (at : ℕ) where
-  pub none-left : (b : Book) → length s ≤ at → rest s at b ≡ refusal 30
+module _ (s : List ℕ) (at : ℕ) (b : Book) where
+  pub none-left : length s ≤ at → readOn s at b ≡ refusal 30
   unfolding readFrom
-  none-left b h = ap (λ (l : List ℕ). readFrom 0 l at b) (drop-of-length-le s {i = at} h)
+  none-left h = ap (λ (l : List ℕ). readFrom 0 l at b) (drop-of-length-le s {i = at} h)
 
-  -- past the k bytes that follow the kind
-  on : (k : ℕ) (b : Book) → readFrom k (drop (suc at) s) (at + 1) b ≡ rest s (at + suc k) b
-  on k b =
-      let e : suc at + k ≡ at + suc k = omega arith in
-      let u : at + 1 + k ≡ at + suc k = omega arith in
-      past k (drop (suc at) s) (at + 1) b ∙ rw (drop-drop, e, u)
-
-  -- what the record at the place does
-  module _ (b : Book) (more : at < length s) where
-    here : (r : Record) → recordAt (drop at s) ≡ r
-        → rest s at b
-        ≡ follow r b (finished (at + 1) b) (λ skip next. readFrom skip (drop (suc at) s) (at + 1) next)
-    here r e = cons-follow (drop at s) (getD s at 0) (drop (suc at) s) at b (drop-cons s at 0 more) ∙ rw e
-
-    pub refuses : (k : ℕ) → recordAt (drop at s) ≡ Refused k → rest s at b ≡ refusal k
-    refuses k e = here (Refused k) e
-
-    pub ends : recordAt (drop at s) ≡ Ends → rest s at b ≡ finished (at + 1) b
-    ends e = here Ends e
-
-    opens : (t : Trigger) → recordAt (drop at s) ≡ Opens (t .0) (t .1)
-        → rest s at b ≡ reply (planQuestions b t) refusal (rest s (at + planSize) (withPlan b t))
-    opens t e = here (Opens (t .0) (t .1)) e ∙ ap (reply (planQuestions b t) refusal) (on 2 (withPlan b t))
-
-    lists : (c : Change) → recordAt (drop at s) ≡ Lists c
-        → rest s at b ≡ reply (changeQuestions b c) refusal (rest s (at + changeSize) (withChange b c))
-    lists c e = here (Lists c) e ∙ ap (reply (changeQuestions b c) refusal) (on 9 (withChange b c))
+  pub record-next : at < length s → (r : Record) → recordAt (drop at s) ≡ r
+      → readOn s at b ≡ follow r b (finished (at + 1) b) (λ skip next. readOn s (at + suc skip) next)
+  record-next more r e =
+      by-record (drop at s) at b r (simp length-drop (omega arith)) e
+      ∙ (λ i. follow r b (finished (at + 1) b)
+      (λ skip next. readFrom 0 (drop-drop (suc skip) at s i) (at + suc skip) next))
 
 -- the bytes up to a place are read, and a sound store holds what they say
 abbrev pub SoFar : List ℕ → Playbook → ℕ → Type 0
-SoFar s p at = (at ≤ length s) × Sound p × (readFirst s ≡ rest s at (meaning p))
+SoFar s p at = (at ≤ length s) × Sound p × (readFirst s ≡ readOn s at (meaning p))
 
 -- where a record that asks questions leads: where one is answered no, the playbook is refused; else it is read on
 pub record Turn (s : List ℕ) (r : Taken) (to : ℕ) : Type 0 where
@@ -116,7 +108,7 @@ pub record Turn (s : List ℕ) (r : Taken) (to : ℕ) : Type 0 where
 
 module _ (s : List ℕ) (p : Playbook) (at : ℕ) (so-far : SoFar s p at) (more : at < length s) where
   turn : (qs : List Question) (next : Book) (to : ℕ) → to ≤ length s → Numbered qs ≡ true
-      → (firstNo qs ≡ 0 → Fits next) → rest s at (meaning p) ≡ reply qs refusal (rest s to next)
+      → (firstNo qs ≡ 0 → Fits next) → readOn s at (meaning p) ≡ reply qs refusal (readOn s to next)
       → (r : Taken) → r ≡ taken qs (meaning p) next → Turn s r to
   turn qs next to h n fits follows r e =
       let k = answer-is qs (meaning p) next r e in
@@ -128,7 +120,7 @@ module _ (s : List ℕ) (p : Playbook) (at : ℕ) (so-far : SoFar s p at) (more 
               h,
               is-sound (r .playbook) next stored f,
               so-far .2 ∙ follows ∙ all-yes qs refusal _ n (sym k ∙ none)
-                  ∙ ap (rest s to) (sym (means (r .playbook) next stored f)),
+                  ∙ ap (readOn s to) (sym (means (r .playbook) next stored f)),
             );
       }
 
@@ -141,12 +133,11 @@ module _ (s : List ℕ) (p : Playbook) (at : ℕ) (so-far : SoFar s p at) (more 
   unfolding Numbered
   plan-turn t here =
       turn (planQuestions (meaning p) t) (withPlan (meaning p) t) (at + planSize) (omega (arith, left _ here)) refl
-      (plan-passed (meaning p) t (sound-fits p (so-far .1))) (opens s at (meaning p) more t here)
+      (plan-passed (meaning p) t (sound-fits p (so-far .1))) (record-next s at (meaning p) more _ here)
 
   pub change-turn : (c : Change) → recordAt (drop at s) ≡ Lists c → (r : Taken) → r ≡ listChange (meaning p) c
       → Turn s r (at + changeSize)
   unfolding Numbered
   change-turn c here =
       turn (changeQuestions (meaning p) c) (withChange (meaning p) c) (at + changeSize) (omega (arith, left _ here))
-      refl (change-passed (meaning p) c (sound-fits p (so-far .1)))
-      (lists s at (meaning p) more c here)
+      refl (change-passed (meaning p) c (sound-fits p (so-far .1))) (record-next s at (meaning p) more _ here)

@@ -4,52 +4,40 @@
 use mathlib.Core.Path.{_≡_, refl, sym, ap, ap₂, _∙_}
 use mathlib.Core.List.{List, [], _∷_, _++_, append-assoc, append-nil}
 use mathlib.Core.Bool.{Bool, true, _&&_}
-use Prim.Native.Nat.{ℕ, suc, _+_, _-_, _*_, _^_, _≤_}
+use Prim.Native.Nat.{ℕ, suc, _+_, _-_, _*_, _^_}
 use native.Mathlib.Omega.{arith}
 use lib.Dec.{ltb}
 use lib.ListN.{length, take, drop, length-append, length-drop, take-append-drop}
 use lib.Seq.{length-take-le}
-use borrow.Author.Tests.{ltb-true, le-leb, eq-eqb}
-use Rattle.answer.proofs.Asked.{asked, none-asked, Numbered, all-yes, passed}
+use borrow.Author.Tests.{ltb-true, eq-eqb}
+use Rattle.answer.proofs.Asked.{asked, none-asked, Numbered, all-yes}
 use Rattle.answer.proofs.Bools.{and-parts}
 use Rattle.answer.specs.Ask.{firstNo}
 use Rattle.lists.specs.Arrays.{everyTail, every}
 use Rattle.lists.specs.Bytes.{be, field}
 use Rattle.lists.proofs.Numbers.{num-be}
+use Rattle.lists.proofs.Tails.{every-take, every-drop}
 use Rattle.flow.specs.Rules.{ruleKey, prefixOk, wellFormed, portOf, ruleOf}
 use Rattle.flow.proofs.Actions.{port-rule}
-use Rattle.playbook.specs.Limits.{maxPlans, maxChanges, switchCount, planKind, changeKind, endKind}
+use Rattle.playbook.specs.Limits.{maxPlans, maxChanges, planKind, changeKind, endKind}
 use Rattle.playbook.specs.Limits.{planSize, changeSize, endSize}
 use Rattle.playbook.specs.Books.{Book, meaning, Trigger, triggerOf, counted, newPlan, withPlan, withChange}
 use Rattle.playbook.specs.Books.{planQuestions, changeQuestions}
-use Rattle.playbook.specs.Printing.{changeBytes, changesBytes, plansBytes, bytesOf}
-use Rattle.playbook.specs.Reading.{refusal, finished, follow, readFrom, readFirst, whole, readWhole}
-use Rattle.playbook.specs.Records.{isKind, sizeOf, recordOf, recordAt}
+use Rattle.playbook.specs.Printing.{changeBytes, changesBytes, plansBytes, bytesOf, ruleInRange, InRange}
+use Rattle.playbook.specs.Reading.{refusal, finished, readFrom, readFirst, whole, readWhole}
+use Rattle.playbook.specs.Records.{recordAt}
 use Rattle.playbook.specs.Storing.{spans, bookOk, storedOk}
 use Rattle.playbook.specs.declared.Change.{Change}
 use Rattle.playbook.specs.declared.Plan.{Plan}
 use Rattle.playbook.specs.declared.Playbook.{Playbook}
-use Rattle.playbook.specs.declared.Record.{Record}
-use Rattle.playbook.specs.declared.Record.the-variants.{Lists, Ends, Refused}
+use Rattle.playbook.specs.declared.Record.the-variants.{Lists, Ends}
 use Rattle.playbook.proofs.Kept.{stored-parts, stored-limits, stored-sound, plan-back, change-back}
-use Rattle.playbook.proofs.Listed.{every-take, every-drop}
+use Rattle.playbook.proofs.Past.{whole-record, by-record}
+use Rattle.playbook.proofs.Questions.{change-passes}
 use Rattle.playbook.proofs.Sound.{count-snoc}
 use Rattle.playbook.proofs.Spans.{span-parts, span-none, span-le}
 
--- what the code's types say of a change's rule: a prefix of four bytes, and a port of two
-abbrev pub ruleInRange : Change → Bool
-ruleInRange c = ltb (c .rule .prefix) (256 ^ 4) && ltb (portOf (c .rule .action)) (256 ^ 2)
-
-abbrev pub InRange : Playbook → Type 0
-InRange p = every ruleInRange (meaning p .changes) ≡ true
-
--- a record at the front of bytes that has its size
-full-record : (kind : ℕ) (xs : List ℕ) → isKind kind ≡ true → sizeOf kind ≤ suc (length xs)
-    → recordAt (kind ∷ xs) ≡ recordOf kind (kind ∷ xs)
-unfolding recordAt
-full-record kind xs k n =
-    asked Refused _ 31 _ _ k ∙ asked Refused _ 30 _ _ (le-leb (sizeOf kind) (suc (length xs)) n) ∙ none-asked Refused _
-
+-- what a printed change is read as
 change-record : (c : Change) (rest : List ℕ) → wellFormed (c .rule) ≡ true → ruleInRange c ≡ true
     → recordAt (changeBytes c rest) ≡ Lists c
 unfolding be field
@@ -59,38 +47,30 @@ change-record c rest w r =
     let x = num-be 4 (c .rule .prefix) (ltb-true _ _ (range .0)) in
     let y = num-be 2 (portOf (c .rule .action)) (ltb-true _ _ (range .1)) in
     let rule = ap₂ (λ (prefix port : ℕ). ruleOf prefix (c .rule .length) port) x y ∙ port-rule (c .rule) port in
-    full-record changeKind _ refl (omega arith)
+    whole-record (changeBytes c rest) changeKind refl refl (omega arith)
     ∙ (λ i. Lists (record { flow = c .flow; switch = c .switch; rule = rule i }))
 
--- reading goes by the record at the front, and past it where it passes its questions
-at-record : (x : ℕ) (xs : List ℕ) (used : ℕ) (b : Book) (r : Record) → recordAt (x ∷ xs) ≡ r
-    → readFrom 0 (x ∷ xs) used b ≡ follow r b (finished (used + 1) b) (λ skip next. readFrom skip xs (used + 1) next)
-unfolding readFrom
-at-record x xs used b r e =
-    ap (λ (r : Record). follow r b (finished (used + 1) b) (λ skip next. readFrom skip xs (used + 1) next)) e
-
+-- the reader past a record that passes its questions
 past-plan : (t : Trigger) (rest : List ℕ) (used : ℕ) (b : Book) → firstNo (planQuestions b t) ≡ 0
     → readFrom 0 (planKind ∷ t .0 ∷ t .1 ∷ rest) used b ≡ readFrom 0 rest (used + planSize) (withPlan b t)
-unfolding readFrom Numbered
+unfolding Numbered
 past-plan t rest used b pass =
-    let n : used + 1 + 1 + 1 ≡ used + planSize = omega arith in
-    at-record planKind (t .0 ∷ t .1 ∷ rest) used b _ (full-record planKind (t .0 ∷ t .1 ∷ rest) refl (omega arith))
-    ∙ all-yes (planQuestions b t) refusal _ refl pass ∙ ap (λ (v : ℕ). readFrom 0 rest v (withPlan b t)) n
+    let l = planKind ∷ t .0 ∷ t .1 ∷ rest in
+    by-record l used b _ (omega arith) (whole-record l planKind refl refl (omega arith))
+    ∙ all-yes (planQuestions b t) refusal _ refl pass
 
 past-change : (c : Change) (rest : List ℕ) (used : ℕ) (b : Book) → ruleInRange c ≡ true
     → firstNo (changeQuestions b c) ≡ 0
     → readFrom 0 (changeBytes c rest) used b ≡ readFrom 0 rest (used + changeSize) (withChange b c)
-unfolding readFrom Numbered be
+unfolding Numbered be
 past-change c rest used b r pass =
-    let known = passed 11 (ltb (c .switch) switchCount) _ pass in
-    let some = passed 33 (ltb 0 (length (b .plans))) _ (known .1) in
-    let rule = passed 14 (wellFormed (c .rule)) _ (some .1) in
-    let n : used + 1 + 1 + 1 + 1 + 1 + 1 + 1 + 1 + 1 + 1 ≡ used + changeSize = omega arith in
-    at-record changeKind (drop 1 (changeBytes c rest)) used b (Lists c) (change-record c rest (rule .0) r)
-    ∙ all-yes (changeQuestions b c) refusal _ refl pass ∙ ap (λ (v : ℕ). readFrom 0 rest v (withChange b c)) n
+    let formed = change-passes b c pass .formed in
+    by-record (changeBytes c rest) used b (Lists c) (omega arith) (change-record c rest formed r)
+    ∙ all-yes (changeQuestions b c) refusal _ refl pass
 
 past-end : (used : ℕ) (b : Book) → readFrom 0 (endKind ∷ []) used b ≡ finished (used + 1) b
-past-end used b = at-record endKind [] used b Ends (full-record endKind [] refl (omega arith))
+past-end used b =
+    by-record (endKind ∷ []) used b Ends (omega arith) (whole-record (endKind ∷ []) endKind refl refl (omega arith))
 
 -- how many bytes are printed
 printed-changes : (cs : List Change) (rest : List ℕ)

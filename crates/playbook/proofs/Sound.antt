@@ -1,4 +1,4 @@
--- A book and its store: each gives the other back within the limits; the last plan as the place before the count.
+-- A book and its store: each gives the other back within the limits; the last plan, behind others and by its place.
 -- Assumes nothing.
 use mathlib.Core.Path.{_≡_, refl, sym, ap, _∙_}
 use mathlib.Core.List.{List, [], _∷_, _++_}
@@ -26,12 +26,17 @@ meaning-store b h = λ i. record {
   changes = pad-take maxChanges emptyChange (b .changes) (h .changes) i;
 }
 
-pub store-sound : (b : Book) → Fits b → Sound (storeOf b)
-store-sound b h = ap storeOf (sym (meaning-store b h))
+-- the same of a store that is told to be a book's: what it means, and that it is sound
+pub means : (p : Playbook) (b : Book) → p ≡ storeOf b → Fits b → meaning p ≡ b
+means p b e f = ap meaning e ∙ meaning-store b f
+
+pub is-sound : (p : Playbook) (b : Book) → p ≡ storeOf b → Fits b → Sound p
+is-sound p b e f = e ∙ ap storeOf (sym (means p b e f))
 
 pub sound-fits : (p : Playbook) → Sound p → Fits (meaning p)
 sound-fits p e =
-    let n : length (p .plans) ≡ maxPlans = ap (λ (q : Playbook). length (q .plans)) e ∙ pad-length maxPlans emptyPlan _ in
+    let n : length (p .plans) ≡ maxPlans =
+    ap (λ (q : Playbook). length (q .plans)) e ∙ pad-length maxPlans emptyPlan _ in
     let m : length (p .changes) ≡ maxChanges =
     ap (λ (q : Playbook). length (q .changes)) e ∙ pad-length maxChanges emptyChange _ in
     record {
@@ -46,13 +51,7 @@ sound-planned p e = ap (λ (q : Playbook). q .planned) e
 pub sound-listed : (p : Playbook) → Sound p → p .listed ≡ length (meaning p .changes)
 sound-listed p e = ap (λ (q : Playbook). q .listed) e
 
--- the last plan, behind others and by its place
-pub last-snoc : (qs : List Plan) (q : Plan) → lastCount (qs ++ q ∷ []) ≡ q .count
-unfolding lastCount
-last-snoc [] q = refl
-last-snoc (p ∷ []) q = refl
-last-snoc (p ∷ r ∷ qs) q = last-snoc (r ∷ qs) q
-
+-- one change more of the last plan, which stands behind others
 pub count-snoc : (qs : List Plan) (q : Plan) → countLast (qs ++ q ∷ []) ≡ qs ++ counted q ∷ []
 unfolding countLast
 count-snoc [] q = refl
@@ -65,6 +64,7 @@ count-length [] = refl
 count-length (q ∷ []) = refl
 count-length (q ∷ r ∷ qs) = ap suc (count-length (r ∷ qs))
 
+-- the last plan by its place
 pub last-at : (qs : List Plan) → 0 < length qs → lastCount qs ≡ getD qs (length qs - 1) emptyPlan .count
 unfolding lastCount
 last-at [] h = absurd (omega arith)

@@ -32,7 +32,7 @@ span-parts from end q qs h =
     let c = and-parts known few (b .0) in
     record { known = ltb-true _ _ (c .0); few = leb-true _ _ (c .1); start = eqb-true _ _ (b .1); rest = a .1 }
 
-pub span-join : (from end : ℕ) (q : Plan) (qs : List Plan) → Span from end q qs → spans from end (q ∷ qs) ≡ true
+span-join : (from end : ℕ) (q : Plan) (qs : List Plan) → Span from end q qs → spans from end (q ∷ qs) ≡ true
 unfolding spans
 span-join from end q qs s =
     rw (lt-ltb _ _ (s .known), le-leb _ _ (s .few), eq-eqb _ _ (s .start)) (s .rest)
@@ -41,7 +41,7 @@ pub span-none : (from end : ℕ) → spans from end [] ≡ true → from ≡ end
 unfolding spans
 span-none from end h = eqb-true from end h
 
-pub span-done : (from end : ℕ) → from ≡ end → spans from end [] ≡ true
+span-done : (from end : ℕ) → from ≡ end → spans from end [] ≡ true
 unfolding spans
 span-done from end e = eq-eqb from end e
 

@@ -1,16 +1,14 @@
 -- A plan more and a change more: in the store they are what they are in the book, and what passes its questions fits
--- the store and leaves it sound. Assumes nothing.
+-- the store. Assumes nothing.
 use mathlib.Core.Path.{_≡_, sym, ap, _∙_}
 use mathlib.Core.Bool.{true}
 use mathlib.Core.List.{List, [], _∷_, _++_}
 use Prim.Native.Nat.{ℕ, _+_, _-_, _≤_, _<_}
 use native.Mathlib.Omega.{arith}
-use borrow.Author.Tests.{ltb-true}
 use lib.ListN.{length, set, getD, length-append}
 use lib.Seq.{getD-take}
 use Rattle.answer.specs.Ask.{Question, firstNo}
-use Rattle.answer.proofs.Asked.{passed, reply-ap, Numbered, all-yes}
-use Rattle.answer.proofs.Bools.{and-parts}
+use Rattle.answer.proofs.Asked.{reply-ap, Numbered, all-yes}
 use Rattle.lists.specs.Arrays.{pad}
 use Rattle.lists.proofs.Padding.{pad-snoc, pad-get, pad-set}
 use Rattle.playbook.specs.Limits.{maxPlans, maxChanges}
@@ -20,7 +18,8 @@ use Rattle.playbook.specs.declared.Change.{Change}
 use Rattle.playbook.specs.declared.Plan.{Plan}
 use Rattle.playbook.specs.declared.Playbook.{Playbook}
 use Rattle.playbook.specs.declared.Taken.{Taken}
-use Rattle.playbook.proofs.Sound.{Fits, Sound, meaning-store, sound-fits, sound-planned, sound-listed}
+use Rattle.playbook.proofs.Questions.{plan-passes, change-passes}
+use Rattle.playbook.proofs.Sound.{Fits, Sound, means, sound-fits, sound-planned, sound-listed}
 use Rattle.playbook.proofs.Sound.{count-length, last-at, count-at}
 
 -- the store with a plan more, and with a change more, of the last plan
@@ -86,17 +85,7 @@ pub kept : (p : Playbook) (k : ℕ) → Sound p
     → _≡_ {A = Taken} (record { answer = k; playbook = p }) (record { answer = k; playbook = storeOf (meaning p) })
 kept p k e = ap (λ (q : Playbook). record { answer = k; playbook = q }) e
 
--- a store of a book that fits: what it means, and that it is sound
-pub means : (p : Playbook) (b : Book) → p ≡ storeOf b → Fits b → meaning p ≡ b
-means p b e f = ap meaning e ∙ meaning-store b f
-
-pub is-sound : (p : Playbook) (b : Book) → p ≡ storeOf b → Fits b → Sound p
-is-sound p b e f = e ∙ ap storeOf (sym (means p b e f))
-
--- a plan more and a change more fit where there is room
-plan-fits : (b : Book) (t : Trigger) → Fits b → length (b .plans) < maxPlans → Fits (withPlan b t)
-plan-fits b t f h = record { plans = rw length-append (omega arith); changes = f .changes }
-
+-- a change more fits where there is room
 change-fits : (b : Book) (c : Change) → Fits b → length (b .changes) < maxChanges → Fits (withChange b c)
 change-fits b c f h = record { plans = rw count-length (f .plans); changes = rw length-append (omega arith) }
 
@@ -121,13 +110,8 @@ module _ (qs : List Question) (b next : Book) (r : Taken) (e : r ≡ taken qs b 
 -- what passed its questions fits the store
 pub plan-passed : (b : Book) (t : Trigger) → Fits b → firstNo (planQuestions b t) ≡ 0 → Fits (withPlan b t)
 plan-passed b t f e =
-    let known = passed 11 _ _ e in
-    let new = passed 34 _ _ (known .1) in
-    plan-fits b t f (ltb-true _ _ (passed 35 _ _ (new .1) .0))
+    let q = plan-passes b t e in
+    record { plans = rw length-append (omega arith); changes = f .changes }
 
 pub change-passed : (b : Book) (c : Change) → Fits b → firstNo (changeQuestions b c) ≡ 0 → Fits (withChange b c)
-change-passed b c f e =
-    let known = passed 11 _ _ e in
-    let planned = passed 33 _ _ (known .1) in
-    let formed = passed 14 _ _ (planned .1) in
-    change-fits b c f (ltb-true _ _ (and-parts _ _ (passed 35 _ _ (formed .1) .0) .0))
+change-passed b c f e = change-fits b c f (change-passes b c e .room)

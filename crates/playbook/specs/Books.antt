@@ -61,9 +61,12 @@ abbrev pub hasTrigger : Trigger → List Plan → Bool
 hasTrigger t qs = among sameTrigger t (map triggerOf qs)
 
 -- the prefixes with lengths of the changes on a switch, and how many different ones these are
+abbrev pub isOn : ℕ → Change → Bool
+isOn s c = eqb (c .switch) s
+
 unfoldable pub keysOn : ℕ → List Change → List Key
 keysOn s [] = []
-keysOn s (c ∷ cs) = pick (eqb (c .switch) s) (ruleKey (c .rule) ∷ keysOn s cs) (keysOn s cs)
+keysOn s (c ∷ cs) = pick (isOn s c) (ruleKey (c .rule) ∷ keysOn s cs) (keysOn s cs)
 
 abbrev pub kindsOn : ℕ → List Change → ℕ
 kindsOn s cs = kinds sameKey (keysOn s cs)

@@ -1,8 +1,12 @@
 -- The bytes of a stored playbook, from which its reader gives it back. Each printer puts its bytes before those that
 -- follow. Assumes nothing.
-use Prim.Native.Nat.{ℕ}
+use mathlib.Core.Path.{_≡_}
+use Prim.Native.Nat.{ℕ, _^_}
+use mathlib.Core.Bool.{Bool, true, _&&_}
 use mathlib.Core.List.{List, [], _∷_, _++_}
+use lib.Dec.{ltb}
 use lib.ListN.{take, drop}
+use Rattle.lists.specs.Arrays.{every}
 use Rattle.lists.specs.Bytes.{be}
 use Rattle.flow.specs.Rules.{portOf}
 use Rattle.playbook.specs.Limits.{planKind, changeKind, endKind}
@@ -30,3 +34,10 @@ plansBytes (q ∷ qs) cs = planBytes q (changesBytes (take (q .count) cs) (plans
 
 abbrev pub bytesOf : Playbook → List ℕ
 bytesOf p = plansBytes (meaning p .plans) (meaning p .changes)
+
+-- what the code's types say of a rule: a prefix of four bytes, and a port of two
+abbrev pub ruleInRange : Change → Bool
+ruleInRange c = ltb (c .rule .prefix) (256 ^ 4) && ltb (portOf (c .rule .action)) (256 ^ 2)
+
+abbrev pub InRange : Playbook → Type 0
+InRange p = every ruleInRange (meaning p .changes) ≡ true

@@ -3,6 +3,7 @@
 use flow::Rule;
 
 mod books;
+mod changes;
 mod keys;
 mod limits;
 mod plans;

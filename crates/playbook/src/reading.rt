@@ -4,8 +4,8 @@ ghost use Rattle.playbook.specs.Reading.{refusal, readFirst, readWhole};
 use crate::Outcome;
 use crate::Record;
 use crate::books::empty;
-use crate::books::list_change;
 use crate::books::open_plan;
+use crate::changes::list_change;
 use crate::limits;
 use crate::records::record_at;
 

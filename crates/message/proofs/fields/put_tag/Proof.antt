@@ -5,8 +5,8 @@ use native.Mathlib.Omega.{arith}
 use borrow.Author.Needs.{needs}
 use lib.ListN.{length, take}
 use lib.Seq.{sets, take-all}
+use Rattle.lists.proofs.Runs.{sets-turn}
 use Rattle.tag.specs.Tags.{tagLength}
-use Rattle.message.proofs.Frames.{sets-turn}
 use Rattle.message.proofs.fields.put_tag.Statement.{statement}
 use Rattle.message.proofs.fields.put_tag.Tie as tie
 

@@ -6,9 +6,9 @@ use borrow.Author.Needs.{needs}
 use borrow.Author.Tests.{le-leb, lt-leb}
 use lib.ListN.{length, take}
 use lib.Seq.{length-take-le}
+use Rattle.lists.proofs.Stores.{lent-rest}
 use Rattle.tag.specs.Tags.{tagLength, isTag}
 use Rattle.message.specs.Reading.{isSealed}
-use Rattle.message.proofs.Frames.{lent-rest}
 use Rattle.message.proofs.reading.is_sealed.Statement.{statement}
 use Rattle.message.proofs.reading.is_sealed.Tie as tie
 

@@ -9,8 +9,7 @@ use borrow.Author.Tests.{eq-eqb, ne-eqb}
 use lib.Dec.{eqb}
 use lib.ListN.{take, drop, getD}
 use Rattle.lists.specs.Kinds.{among}
-use Rattle.lists.proofs.Stores.{back}
-use Rattle.playbook.proofs.Scans.{ahead}
+use Rattle.lists.proofs.Stores.{ahead, back}
 use Rattle.playbook.proofs.keys.holds.Statement.{statement}
 use Rattle.playbook.proofs.keys.holds.Tie as tie
 

@@ -9,13 +9,12 @@ use borrow.Author.Tests.{eq-eqb, ne-eqb, not-true, not-false}
 use lib.Dec.{eqb}
 use lib.ListN.{length, take, drop, getD}
 use Rattle.answer.specs.Ask.{pick}
-use Rattle.lists.proofs.Stores.{back}
+use Rattle.lists.proofs.Stores.{behind, back}
 use Rattle.lists.specs.Kinds.{among}
 use Rattle.flow.specs.Rules.{Key, ruleKey, sameKey}
 use Rattle.playbook.specs.Limits.{maxChanges, maxKeys}
 use Rattle.playbook.specs.Books.{emptyChange, keysOn}
 use Rattle.playbook.specs.declared.Change.{Change}
-use Rattle.playbook.proofs.Scans.{behind}
 use Rattle.playbook.proofs.Gathered.{Gathered, gathered-none, gathered-fits, gathered-known, gathered-full}
 use Rattle.playbook.proofs.Gathered.{gathered-looked, gathered-new, kinds-over}
 use Rattle.playbook.proofs.keys.keys_fit.Statement.{statement}

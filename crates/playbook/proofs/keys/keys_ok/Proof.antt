@@ -8,11 +8,12 @@ use borrow.Author.Needs.{needs}
 use borrow.Author.Tests.{le-leb, not-true, not-false}
 use lib.Dec.{leb}
 use lib.ListN.{take}
+use Rattle.lists.proofs.Members.{kinds-few}
 use Rattle.flow.specs.Rules.{sameKey}
 use Rattle.playbook.specs.Limits.{maxKeys, switchCount}
 use Rattle.playbook.specs.Books.{keysOn, kindsOn}
 use Rattle.playbook.specs.Storing.{fewKeysBelow}
-use Rattle.playbook.proofs.Gathered.{kinds-few, few-step}
+use Rattle.playbook.proofs.Gathered.{few-step}
 use Rattle.playbook.proofs.keys.keys_ok.Statement.{statement}
 use Rattle.playbook.proofs.keys.keys_ok.Tie as tie
 

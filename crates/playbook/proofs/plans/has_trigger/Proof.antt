@@ -7,10 +7,9 @@ use native.Mathlib.Omega.{arith}
 use borrow.Author.Needs.{needs}
 use lib.ListN.{length, take, drop, getD}
 use Rattle.lists.specs.Kinds.{among}
-use Rattle.lists.proofs.Stores.{back}
+use Rattle.lists.proofs.Stores.{ahead, back}
 use Rattle.playbook.specs.Limits.{maxPlans}
 use Rattle.playbook.specs.Books.{emptyPlan, triggerOf, sameTrigger, hasTrigger}
-use Rattle.playbook.proofs.Scans.{ahead}
 use Rattle.playbook.proofs.plans.has_trigger.Statement.{statement}
 use Rattle.playbook.proofs.plans.has_trigger.Tie as tie
 

@@ -6,11 +6,10 @@ use native.Mathlib.Omega.{arith}
 use borrow.Author.Needs.{needs}
 use lib.ListN.{length, take, drop, getD, length-take, drop-of-length-le}
 use Rattle.answer.specs.Ask.{pick}
-use Rattle.lists.proofs.Stores.{length-mapped}
+use Rattle.lists.proofs.Stores.{length-mapped, ahead}
 use Rattle.playbook.specs.Limits.{maxPlans}
 use Rattle.playbook.specs.Books.{emptyPlan, triggerOf, sameTrigger, newPlan}
 use Rattle.playbook.specs.Plans.{planOf}
-use Rattle.playbook.proofs.Scans.{ahead}
 use Rattle.playbook.proofs.plans.plan_of.Statement.{statement}
 use Rattle.playbook.proofs.plans.plan_of.Tie as tie
 

@@ -1,8 +1,10 @@
 -- `read` meets its contract: the branches answer question 38 of what was read first. Assumes nothing.
 use mathlib.Core.Path.{_≡_, sym, ap, _∙_}
 use Prim.Native.Nat.{ℕ}
+use native.Mathlib.Omega.{arith}
 use borrow.Author.Needs.{needs}
 use borrow.Author.Tests.{eq-eqb, ne-eqb}
+use lib.ListN.{length}
 use Rattle.answer.proofs.Asked.{none-asked, refused, asked}
 use Rattle.playbook.specs.Reading.{refusal, whole}
 use Rattle.playbook.specs.declared.Outcome.{Outcome}
@@ -22,7 +24,9 @@ module _ (n : ℕ) (r : Outcome) where
 
 returns : tie.Need-returns
 returns c =
-    sym (all-used _ _ (c .before .before .if1 .taken) (c .if2 .taken))
+    let s = c .before .before .before .before .before .before .args .s .now in
+    let r = c .before .before .before .before .read-first .result in
+    sym (all-used (length s) r (omega arith) (omega arith))
     ∙ ap (whole _) (c .before .before .before .before .read-first .ensures)
 
 returns-2 : tie.Need-returns-2

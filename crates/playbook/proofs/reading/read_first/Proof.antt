@@ -9,9 +9,8 @@ use lib.ListN.{length}
 use Rattle.playbook.specs.Limits.{planSize, changeSize}
 use Rattle.playbook.specs.Books.{noPlans, meaning}
 use Rattle.playbook.specs.declared.Playbook.{Playbook}
-use Rattle.playbook.proofs.Sound.{Fits}
-use Rattle.playbook.proofs.Steps.{means, is-sound}
-use Rattle.playbook.proofs.Past.{rest, none-left, refuses, ends, SoFar, Turn, plan-turn, change-turn}
+use Rattle.playbook.proofs.Sound.{Fits, means, is-sound}
+use Rattle.playbook.proofs.Past.{readOn, none-left, record-next, SoFar, Turn, plan-turn, change-turn}
 use Rattle.playbook.proofs.reading.read_first.Statement.{statement}
 use Rattle.playbook.proofs.reading.read_first.Tie as tie
 
@@ -29,7 +28,7 @@ loop-holds c =
     let e = c .empty .ensures in (
       omega arith,
       is-sound _ noPlans e nothing-fits,
-      ap (rest (c .before .before .args .s .now) 0) (sym (means _ noPlans e nothing-fits)),
+      ap (readOn (c .before .before .args .s .now) 0) (sym (means _ noPlans e nothing-fits)),
     )
 
 -- the bytes, in a turn
@@ -43,7 +42,7 @@ returns c =
     let so-far = turn .before .loop in
     c .refused .ensures
     ∙ sym (so-far .inv .2
-    ∙ refuses (bytes turn) (so-far .at) (meaning (so-far .p)) (turn .loop-test .taken) _
+    ∙ record-next (bytes turn) (so-far .at) (meaning (so-far .p)) (turn .loop-test .taken) _
     (sym (found .record-at .ensures) ∙ c .before .before .k .given .1))
 
 returns-2 : tie.Need-returns-2 Inv-loop μ-loop
@@ -53,7 +52,7 @@ returns-2 c =
     let so-far = turn .before .loop in
     ap (λ (p : Playbook). record { answer = 0; used = so-far .at + 1; playbook = p }) (so-far .inv .1)
     ∙ sym (so-far .inv .2
-    ∙ ends (bytes turn) (so-far .at) (meaning (so-far .p)) (turn .loop-test .taken)
+    ∙ record-next (bytes turn) (so-far .at) (meaning (so-far .p)) (turn .loop-test .taken) _
     (sym (found .record-at .ensures) ∙ c .enum-told .given .1))
 
 -- the arms that ask questions

@@ -7,13 +7,14 @@ use Prim.Native.Nat.{ℕ, _-_, _≤_, _<_}
 use native.Mathlib.Nat.{add-zero}
 use native.Mathlib.Omega.{arith}
 use borrow.Author.Needs.{needs}
-use borrow.Author.Tests.{le-leb, lt-leb, ne-eqb}
+use borrow.Author.Tests.{lt-leb, ne-eqb}
 use lib.ListN.{length, getD, drop, length-drop}
 use lib.Seq.{getD-drop}
-use Rattle.answer.proofs.Asked.{none-asked, refused, asked}
+use Rattle.answer.proofs.Asked.{refused, asked}
 use Rattle.playbook.specs.Limits.{planKind, changeKind, endKind}
 use Rattle.playbook.specs.Records.{isKind, sizeOf, recordOf, recordAt}
 use Rattle.playbook.specs.declared.Record.the-variants.{Lists, Refused}
+use Rattle.playbook.proofs.Past.{whole-record}
 use Rattle.playbook.proofs.records.record_at.Statement.{statement}
 use Rattle.playbook.proofs.records.record_at.Tie as tie
 
@@ -38,8 +39,7 @@ module _ (c : tie.Start) (kind : ℕ) (first : getD (c .args .s .now) (c .args .
   cut-short e h = rw (here, length-drop) (asked _ _ 31 _ _ e ∙ refused _ _ 30 _ _ (lt-leb _ _ h))
 
   is-whole : isKind kind ≡ true → sizeOf kind ≤ size c → recordAt (left c) ≡ recordOf kind (left c)
-  unfolding recordAt
-  is-whole e h = rw (here, length-drop) (asked _ _ 31 _ _ e ∙ asked _ _ 30 _ _ (le-leb _ _ h) ∙ none-asked _ _)
+  is-whole e h = whole-record (left c) kind here e (rw length-drop h)
 
 returns : tie.Need-returns
 returns c = sym (cut-short (c .before .before .before .before) 17 (omega arith) refl (omega arith))

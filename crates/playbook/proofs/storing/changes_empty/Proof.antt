@@ -7,11 +7,11 @@ use native.Mathlib.Omega.{arith}
 use borrow.Author.Needs.{needs}
 use lib.ListN.{length, drop, getD}
 use Rattle.lists.specs.Arrays.{everyTail, onHead, every}
+use Rattle.lists.proofs.Stores.{rest}
 use Rattle.lists.proofs.Tails.{tail-end}
 use Rattle.playbook.specs.Limits.{maxChanges}
 use Rattle.playbook.specs.Books.{emptyChange}
 use Rattle.playbook.specs.Storing.{changeEmpty}
-use Rattle.playbook.proofs.Scans.{rest}
 use Rattle.playbook.proofs.storing.changes_empty.Statement.{statement}
 use Rattle.playbook.proofs.storing.changes_empty.Tie as tie
 

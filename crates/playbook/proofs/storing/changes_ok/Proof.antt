@@ -7,11 +7,10 @@ use native.Mathlib.Omega.{arith}
 use borrow.Author.Needs.{needs}
 use lib.ListN.{length, take, drop, getD}
 use Rattle.lists.specs.Arrays.{everyTail, every}
-use Rattle.lists.proofs.Stores.{back}
+use Rattle.lists.proofs.Stores.{ahead, back}
 use Rattle.playbook.specs.Limits.{maxChanges}
 use Rattle.playbook.specs.Books.{emptyChange}
 use Rattle.playbook.specs.Storing.{changeOk}
-use Rattle.playbook.proofs.Scans.{ahead}
 use Rattle.playbook.proofs.storing.changes_ok.Statement.{statement}
 use Rattle.playbook.proofs.storing.changes_ok.Tie as tie
 

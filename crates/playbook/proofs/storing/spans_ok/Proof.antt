@@ -8,11 +8,10 @@ use borrow.Author.Needs.{needs}
 use borrow.Author.Tests.{lt-ltb, le-ltb, le-leb, lt-leb, eq-eqb, ne-eqb}
 use lib.Dec.{ltb, leb, eqb}
 use lib.ListN.{length, take, drop, getD}
-use Rattle.lists.proofs.Stores.{back}
+use Rattle.lists.proofs.Stores.{ahead, back}
 use Rattle.playbook.specs.Limits.{maxPlans, maxOfPlan, switchCount}
 use Rattle.playbook.specs.Books.{emptyPlan}
 use Rattle.playbook.specs.Storing.{spans}
-use Rattle.playbook.proofs.Scans.{ahead}
 use Rattle.playbook.proofs.storing.spans_ok.Statement.{statement}
 use Rattle.playbook.proofs.storing.spans_ok.Tie as tie
 

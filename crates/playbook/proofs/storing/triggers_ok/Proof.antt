@@ -8,11 +8,10 @@ use native.Mathlib.Omega.{arith}
 use borrow.Author.Needs.{needs}
 use lib.ListN.{length, take, drop, getD}
 use Rattle.lists.specs.Kinds.{different}
-use Rattle.lists.proofs.Stores.{back}
+use Rattle.lists.proofs.Stores.{ahead, back}
 use Rattle.playbook.specs.Limits.{maxPlans}
 use Rattle.playbook.specs.Books.{emptyPlan, triggerOf, sameTrigger, hasTrigger}
 use Rattle.playbook.specs.declared.Plan.{Plan}
-use Rattle.playbook.proofs.Scans.{ahead}
 use Rattle.playbook.proofs.storing.triggers_ok.Statement.{statement}
 use Rattle.playbook.proofs.storing.triggers_ok.Tie as tie
 

@@ -6,8 +6,8 @@ use borrow.Author.Needs.{needs}
 use borrow.Author.Tests.{lt-ltb, le-ltb}
 use Rattle.playbook.specs.Limits.{maxPlans}
 use Rattle.playbook.proofs.Steps.{last-count, few-plans}
-use Rattle.playbook.proofs.books.has_room.Statement.{statement}
-use Rattle.playbook.proofs.books.has_room.Tie as tie
+use Rattle.playbook.proofs.changes.has_room.Statement.{statement}
+use Rattle.playbook.proofs.changes.has_room.Tie as tie
 
 returns : tie.Need-returns
 returns c = rw (le-ltb (c .before .args .t1 .listed) 512 (omega arith))

@@ -5,8 +5,8 @@ use native.Mathlib.Omega.{arith}
 use borrow.Author.Needs.{needs}
 use Rattle.playbook.specs.Limits.{maxPlans}
 use Rattle.playbook.proofs.Steps.{change-more, last-count, few-plans}
-use Rattle.playbook.proofs.books.with_change.Statement.{statement}
-use Rattle.playbook.proofs.books.with_change.Tie as tie
+use Rattle.playbook.proofs.changes.with_change.Statement.{statement}
+use Rattle.playbook.proofs.changes.with_change.Tie as tie
 
 few : (c : tie.Start) → c .args .t1 .planned ≤ maxPlans
 few c = few-plans (c .args .t1) (c .pre .0)

@@ -11,13 +11,13 @@ use lib.Dec.{ltb, leb}
 use lib.ListN.{length, drop}
 use Rattle.answer.proofs.Asked.{none-asked, refused, asked}
 use Rattle.answer.proofs.Bools.{and-parts}
-use Rattle.playbook.specs.Limits.{maxChanges, maxOfPlan, maxKeys}
+use Rattle.playbook.specs.Limits.{maxChanges, maxOfPlan, maxKeys, switchCount}
 use Rattle.playbook.specs.Books.{meaning, kindsOn, lastCount, withChange, changeQuestions, taken, listChange}
 use Rattle.playbook.specs.declared.Change.{Change}
 use Rattle.playbook.proofs.Sound.{sound-planned, sound-listed}
 use Rattle.playbook.proofs.Steps.{kept, more-changes}
-use Rattle.playbook.proofs.books.list_change.Statement.{statement}
-use Rattle.playbook.proofs.books.list_change.Tie as tie
+use Rattle.playbook.proofs.changes.list_change.Statement.{statement}
+use Rattle.playbook.proofs.changes.list_change.Tie as tie
 
 -- the tests of questions 34 and 36 on the book are those on the store
 planned : (c : tie.Start) → ltb 0 (length (meaning (c .args .p) .plans)) ≡ ltb 0 (c .args .p .planned)
@@ -39,7 +39,7 @@ Yes n c =
     listChange b change ≡ taken (drop n (changeQuestions b change)) b (withChange b change)
 
 yes-12 : (c : tie.Else1) → Yes 1 (c .before .before)
-yes-12 c = asked _ _ 12 _ _ (lt-ltb _ _ (c .if1 .left))
+yes-12 c = asked _ _ 12 _ _ (lt-ltb (c .before .before .args .c .switch) switchCount (omega arith))
 
 some : (c : tie.Else2) → 0 < c .before .before .before .before .args .p .planned
 some c = omega arith
