@@ -1,5 +1,5 @@
 #!/bin/sh
-# The cases of trials, and the lines it must print, are what tests/trials.py works out from document 01 without the crates.
+# The cases of trials, and the lines it must print, are what tests/trials.py works out from document 01 alone.
 set -u
 if ! command -v python3 >/dev/null; then
     echo "tests/trials.sh needs Python 3"

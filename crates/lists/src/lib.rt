@@ -1,5 +1,6 @@
-// Definitions and laws of lists: arrays with a count as lists, tests of every element, different members, and numbers as
-// bytes. The crates above cite specs/ in their contracts and proofs/ in their proofs. The only code makes numbers of bytes.
+// Definitions and laws of lists: arrays with a count as lists, tests of every element, different members, and numbers
+// as bytes. The crates above cite specs/ in their contracts and proofs/ in their proofs. The only code makes numbers of
+// bytes.
 ghost use mathlib.Core.Path.{_≡_};
 ghost use mathlib.Core.List.{[], _∷_};
 ghost use Rattle.lists.specs.Bytes.{num};

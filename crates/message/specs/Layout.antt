@@ -1,5 +1,5 @@
--- How a message lies in its bytes (document 01, "Bytes"): kinds, offsets of fields, and lengths; all of them stand here.
--- Assumes nothing.
+-- How a message lies in its bytes (document 01, "Bytes"): kinds, offsets of fields, and lengths; all of them stand
+-- here. Assumes nothing.
 use Prim.Native.Nat.{ℕ, _+_}
 use Rattle.tag.specs.Tags.{tagLength}
 

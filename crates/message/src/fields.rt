@@ -58,7 +58,8 @@ pub(crate) fn put_tag(part: &mut [u8], at: usize, t: [u8; tag::LENGTH])
 // The tag of the first n bytes, put after them.
 pub(crate) fn seal(part: &mut [u8], n: usize, key: &[u8])
     requires { ⌜ n + tagLength ≤ length (now part) ⌝ }
-    ensures { λ _. ⌜ now (part .exit) ≡ sets (now (part .entry)) n (tagOf (now (key .entry)) (take n (now (part .entry)))) ⌝ }
+    ensures { λ _. ⌜ now (part .exit)
+        ≡ sets (now (part .entry)) n (tagOf (now (key .entry)) (take n (now (part .entry)))) ⌝ }
 {
     let t = tag::tag(key, &part[..n]);
     put_tag(part, n, t);

@@ -1,5 +1,5 @@
-// The messages between switches and controllers (document 01, "Bytes"): read, written at an offset of a frame, and their
-// tags checked. Every function takes every byte string, every offset and every message.
+// The messages between switches and controllers (document 01, "Bytes"): read, written at an offset of a frame, and
+// their tags checked. Every function takes every byte string, every offset and every message.
 use flow::Rule;
 
 mod fields;

@@ -16,7 +16,8 @@ use flow::Rule;
 
 fn put_event(part: &mut [u8], switch: u8, controller: u8, serial: u32, cause: u8)
     requires { ⌜ eventBody ≤ length (now part) ⌝ }
-    ensures { λ _. ⌜ now (part .exit) ≡ sets (now (part .entry)) 0 (bodyOf (kinds.Event switch controller serial cause)) ⌝ }
+    ensures { λ _. ⌜ now (part .exit)
+        ≡ sets (now (part .entry)) 0 (bodyOf (kinds.Event switch controller serial cause)) ⌝ }
 {
     put_u8(part, layout::KIND_AT, layout::EVENT);
     put_u8(part, layout::SENDER_AT, switch);
@@ -27,7 +28,8 @@ fn put_event(part: &mut [u8], switch: u8, controller: u8, serial: u32, cause: u8
 
 fn put_share(part: &mut [u8], controller: u8, switch: u8, number: u32, rule: Rule)
     requires { ⌜ shareBody ≤ length (now part) ⌝ }
-    ensures { λ _. ⌜ now (part .exit) ≡ sets (now (part .entry)) 0 (bodyOf (kinds.Share controller switch number rule)) ⌝ }
+    ensures { λ _. ⌜ now (part .exit)
+        ≡ sets (now (part .entry)) 0 (bodyOf (kinds.Share controller switch number rule)) ⌝ }
 {
     let action = rule.action;
     let port = flow::port_of(action);
@@ -42,7 +44,8 @@ fn put_share(part: &mut [u8], controller: u8, switch: u8, number: u32, rule: Rul
 
 fn put_acknowledgement(part: &mut [u8], switch: u8, controller: u8, number: u32)
     requires { ⌜ acknowledgementBody ≤ length (now part) ⌝ }
-    ensures { λ _. ⌜ now (part .exit) ≡ sets (now (part .entry)) 0 (bodyOf (kinds.Acknowledgement switch controller number)) ⌝ }
+    ensures { λ _. ⌜ now (part .exit)
+        ≡ sets (now (part .entry)) 0 (bodyOf (kinds.Acknowledgement switch controller number)) ⌝ }
 {
     put_u8(part, layout::KIND_AT, layout::ACKNOWLEDGEMENT);
     put_u8(part, layout::SENDER_AT, switch);

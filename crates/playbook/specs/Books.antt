@@ -115,7 +115,8 @@ changeQuestions b c =
 
 -- what a plan and a change do to the store of a book
 abbrev pub taken : List Question → Book → Book → Taken
-taken qs b next = reply qs (λ k. record { answer = k; playbook = storeOf b }) (record { answer = 0; playbook = storeOf next })
+taken qs b next =
+    reply qs (λ k. record { answer = k; playbook = storeOf b }) (record { answer = 0; playbook = storeOf next })
 
 abbrev pub openPlan : Book → Trigger → Taken
 openPlan b t = taken (planQuestions b t) b (withPlan b t)

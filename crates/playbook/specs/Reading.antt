@@ -19,7 +19,7 @@ refusal k = record { answer = k; used = 0; playbook = storeOf noPlans }
 abbrev pub finished : ℕ → Book → Outcome
 finished used b = record { answer = 0; used = used; playbook = storeOf b }
 
--- what a record does: it is refused, or ends the playbook, or gives the next book, with so many bytes of the record to pass
+-- what a record does: it is refused, or ends the playbook, or gives the next book with so many of its bytes to pass
 abbrev pub follow : Record → Book → Outcome → (ℕ → Book → Outcome) → Outcome
 follow (Refused k) b end on = refusal k
 follow Ends b end on = end

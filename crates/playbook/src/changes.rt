@@ -26,7 +26,8 @@ fn has_room(p: Playbook) -> bool
 }
 
 fn with_change(p: Playbook, c: Change) -> Playbook
-    requires { ⌜ (p ≡ storeOf (meaning p)) × (0 < p .planned) × (p .listed < maxChanges) × (lastCount (meaning p .plans) < maxOfPlan) ⌝ }
+    requires { ⌜ (p ≡ storeOf (meaning p)) × (0 < p .planned)
+        × (p .listed < maxChanges) × (lastCount (meaning p .plans) < maxOfPlan) ⌝ }
     ensures { λ r. ⌜ r ≡ storeOf (withChange (meaning p) c) ⌝ }
 {
     let at = p.listed;

@@ -1,5 +1,6 @@
-// The playbook (document 01, "Bytes"): its store by value, its reader over the whole input or over a beginning of it, the
-// test whether a store is such as the reader stores, and the plan of a switch and cause. Every function takes every input.
+// The playbook (document 01, "Bytes"): its store by value, its reader over the whole input or over a beginning of it,
+// the test whether a store is such as the reader stores, and the plan of a switch and cause. Every function takes every
+// input.
 use flow::Rule;
 
 mod books;

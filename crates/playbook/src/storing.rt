@@ -17,7 +17,7 @@ use crate::plans::has_trigger;
 use flow::Action;
 use flow::Rule;
 
-// Whether the first n plans are on known switches, none too long, and have their changes one after another up to an end.
+// Whether the first n plans are on known switches, none too long, and have their changes one after another to an end.
 fn spans_ok(plans: [Plan; limits::PLANS], n: usize, end: usize) -> bool
     requires { ⌜ n ≤ maxPlans ⌝ }
     ensures { λ r. ⌜ r ≡ spans 0 end (take n plans) ⌝ }

@@ -19,7 +19,12 @@ next-take : (w : List ℕ) (t : ℕ) → 16 ≤ t → next (take t w) t ≡ next
 unfolding next
 next-take w t h =
     let front : (n : ℕ) → n < t → getD (take t w) n 0 ≡ getD w n 0 = λ n l. getD-take t w n 0 l in
-    rw (front (t - 2) (omega arith), front (t - 7) (omega arith), front (t - 15) (omega arith), front (t - 16) (omega arith))
+    rw (
+      front (t - 2) (omega arith),
+      front (t - 7) (omega arith),
+      front (t - 15) (omega arith),
+      front (t - 16) (omega arith),
+    )
 
 pub schedule-step : (m w : List ℕ) (t x : ℕ) → 16 ≤ t → t < length w → take t w ≡ schedule m (t - 16) → x ≡ next w t
     → take (t + 1) (set w t x) ≡ schedule m (t + 1 - 16)
