@@ -55,3 +55,11 @@ unfolding reply
 some-no [] refusal next n = absurd (n refl)
 some-no ((k, true) ∷ qs) refusal next n = some-no qs refusal next n
 some-no ((k, false) ∷ qs) refusal next n = refl
+
+-- what holds of every refusal, and of what follows where every answer is yes, holds of the reply
+pub reply-keeps : {A : Type 0} (P : A → Type 0) (qs : List Question) (refuse : ℕ → A) (next : A)
+    → ((k : ℕ) → P (refuse k)) → (firstNo qs ≡ 0 → P next) → P (reply qs refuse next)
+unfolding reply
+reply-keeps P [] refuse next refused asked = asked refl
+reply-keeps P ((k, true) ∷ qs) refuse next refused asked = reply-keeps P qs refuse next refused asked
+reply-keeps P ((k, false) ∷ qs) refuse next refused asked = refused k

@@ -1,5 +1,5 @@
--- What writing a message does to a frame: where it is answered 0 the bytes at the offset are the message's, and every
--- other byte of the frame is as it was; where it is refused the whole frame is. Assumes nothing.
+-- What writing a message does to a frame: where it is answered 0 the bytes at the offset are the message's, are read as
+-- it, and every other byte of the frame is as it was; where it is refused the whole frame is. Assumes nothing.
 use mathlib.Core.Path.{_≡_, refl, ap, _∙_}
 use mathlib.Core.Bool.{true, false}
 use mathlib.Core.List.{List, _++_, append-assoc}
@@ -10,8 +10,10 @@ use lib.ListN.{length, take, drop, length-append, length-drop}
 use lib.Seq.{take-at, drop-at, length-take-le}
 use Rattle.answer.proofs.Asked.{none-asked, refused, asked}
 use Rattle.answer.proofs.Bools.{by-bool, by-le}
-use Rattle.message.specs.Writing.{encode, lengthOf, isMessage, portSaid, placed, writeTo}
+use Rattle.message.specs.Reading.{decode, isSealed}
+use Rattle.message.specs.Writing.{encode, lengthOf, isMessage, portSaid, placed, writeTo, InRange, endOf}
 use Rattle.message.specs.declared.Message.{Message}
+use Rattle.message.proofs.Inverse.{decode-encode, encode-sealed}
 use Rattle.message.proofs.Lengths.{encode-length}
 
 -- a frame with bytes at an offset
@@ -76,6 +78,15 @@ module _ (key : List ℕ) (m : Message) (frame : List ℕ) (at : ℕ) where
   written h =
       by-written (λ y p r e. rw (e, ← encode-length key m) (placed-there (encode key m) frame at (fits r)))
       (λ k n e. let z = rw e at h in absurd (omega arith))
+
+  -- so the bytes at the offset are read as the message where they arrive, and pass the check of their tag
+  pub read-written : InRange m → writeTo key m frame at .0 ≡ 0
+      → decode (endOf m) (take (lengthOf m) (drop at (writeTo key m frame at .1))) ≡ m
+  read-written r h = rw (written h) (decode-encode key m r (written-asked h .1))
+
+  pub sealed-written : writeTo key m frame at .0 ≡ 0
+      → isSealed key (take (lengthOf m) (drop at (writeTo key m frame at .1))) ≡ true
+  sealed-written h = rw (written h) (encode-sealed key m (written-asked h .0))
 
   -- whether it was written or refused
   pub written-length : length (writeTo key m frame at .1) ≡ length frame

@@ -8,7 +8,6 @@ use lib.Dec.{leb}
 use Rattle.answer.specs.Ask.{reply}
 use Rattle.lists.specs.Bytes.{be}
 use Rattle.flow.specs.Rules.{portOk, portOf}
-use Rattle.flow.specs.declared.Rule.{Rule}
 use Rattle.tag.specs.Tags.{tagOf}
 use Rattle.message.specs.Layout.{eventKind, shareKind, acknowledgementKind}
 use Rattle.message.specs.Layout.{eventLength, shareLength, acknowledgementLength}

@@ -1,30 +1,33 @@
--- A store is stored exactly if reading some bytes gives it; what the printer writes are bytes, at most 5313 of them.
--- Assumes nothing.
+-- A store is stored exactly if reading some bytes gives it; what is read and what the printer writes is at most 5313
+-- bytes long, and the printer writes bytes. Assumes nothing.
 use mathlib.Core.Path.{_≡_, refl, sym, ap, _∙_}
 use mathlib.Core.Logic.{_↔_}
 use mathlib.Core.List.{List, [], _∷_}
-use mathlib.Core.Bool.{Bool, true}
+use mathlib.Core.Bool.{Bool, true, false}
 use Prim.Native.Nat.{ℕ, zero, suc, _+_, _*_, _≤_, _<_}
 use native.Mathlib.Omega.{arith}
-use lib.Dec.{ltb, leb}
-use lib.ListN.{length, take, drop}
-use borrow.Author.Tests.{ltb-true, leb-true, lt-ltb}
-use Rattle.answer.proofs.Bools.{and-join, and-parts}
+use lib.Dec.{ltb, leb, eqb}
+use lib.ListN.{length, take, drop, length-append}
+use borrow.Author.Tests.{ltb-true, leb-true, eqb-true, eqb-false, lt-ltb}
+use Rattle.answer.proofs.Asked.{refused}
+use Rattle.answer.proofs.Bools.{by-bool, and-join, and-parts}
 use Rattle.lists.specs.Arrays.{everyTail, every}
 use Rattle.lists.specs.Bytes.{be, AreBytes}
 use Rattle.lists.proofs.Tails.{every-take, every-drop}
 use Rattle.flow.specs.Rules.{ruleKey, prefixOk}
 use Rattle.playbook.specs.Limits.{maxPlans, maxChanges, switchCount, planSize, changeSize, endSize}
-use Rattle.playbook.specs.Books.{meaning}
+use Rattle.playbook.specs.Books.{noPlans, meaning}
 use Rattle.playbook.specs.Printing.{planBytes, changeBytes, changesBytes, plansBytes, bytesOf, InRange}
-use Rattle.playbook.specs.Reading.{readWhole}
-use Rattle.playbook.specs.Storing.{spans, changeOk, storedOk}
+use Rattle.playbook.specs.Reading.{refusal, readFirst, readWhole}
+use Rattle.playbook.specs.Storing.{spans, changeOk, bookOk, storedOk}
 use Rattle.playbook.specs.declared.Change.{Change}
 use Rattle.playbook.specs.declared.Outcome.{Outcome}
 use Rattle.playbook.specs.declared.Plan.{Plan}
 use Rattle.playbook.specs.declared.Playbook.{Playbook}
-use Rattle.playbook.proofs.Kept.{stored-limits, read-stored}
+use Rattle.playbook.proofs.Kept.{book-parts, stored-limits, plan-kept, change-kept, none-ok}
+use Rattle.playbook.proofs.Kept.{read-keeps, read-stored}
 use Rattle.playbook.proofs.Printed.{printed-length, print-read}
+use Rattle.playbook.proofs.Sound.{count-length}
 use Rattle.playbook.proofs.Spans.{span-parts}
 
 -- stored exactly if reading some bytes gives it
@@ -35,9 +38,31 @@ exact p np nc r = (
   (λ x. ap storedOk (sym (ap (λ (o : Outcome). o .playbook) (x .1))) ∙ read-stored (x .0)),
 )
 
--- the longest playbook: 5313 bytes
-pub print-length : (p : Playbook) → storedOk p ≡ true
-    → length (bytesOf p) ≤ planSize * maxPlans + changeSize * maxChanges + endSize
+-- the longest playbook that is read, and the longest that is printed: 5313 bytes
+abbrev pub mostBytes : ℕ
+mostBytes = planSize * maxPlans + changeSize * maxChanges + endSize
+
+pub read-length : (s : List ℕ) → readFirst s .used ≤ mostBytes
+read-length s =
+    read-keeps (λ r. r .used ≤ mostBytes)
+    (λ used b. (bookOk b ≡ true) × (used ≤ planSize * length (b .plans) + changeSize * length (b .changes)))
+    (λ k. omega arith) (λ used b h. let l = book-parts b (h .0) in omega (arith, h .1, l .plans, l .changes))
+    (λ used b t h pass. (plan-kept b t (h .0) pass, rw length-append (omega (arith, h .1))))
+    (λ used b c h pass. (change-kept b c (h .0) pass, rw (count-length, length-append) (omega (arith, h .1))))
+    0 s 0 noPlans (none-ok, omega arith)
+
+pub whole-length : (s : List ℕ) → readWhole s .answer ≡ 0 → length s ≤ mostBytes
+whole-length s h =
+    let r = readFirst s in
+    by-bool (eqb (r .answer) 0)
+    (λ e. by-bool (eqb (r .used) (length s)) (λ u. omega (arith, read-length s, eqb-true (r .used) (length s) u))
+    (λ u. absurd (omega (arith, h, ap (λ (o : Outcome). o .answer) (left e u)))))
+    (λ e. absurd (eqb-false (r .answer) 0 e (rw e at h)))
+  where
+    left : eqb (readFirst s .answer) 0 ≡ true → eqb (readFirst s .used) (length s) ≡ false → readWhole s ≡ refusal 38
+    left e u = rw e (refused _ _ 38 _ _ u)
+
+pub print-length : (p : Playbook) → storedOk p ≡ true → length (bytesOf p) ≤ mostBytes
 print-length p h =
     let l = stored-limits p h in
     omega (arith, printed-length p h, l .plans, l .changes)

@@ -8,7 +8,8 @@ use native.Mathlib.Omega.{arith}
 use lib.Dec.{ltb, leb, eqb}
 use lib.ListN.{length, drop, length-append}
 use borrow.Author.Tests.{ltb-true, leb-true, eqb-true, lt-ltb, le-leb}
-use Rattle.answer.specs.Ask.{Question, reply, firstNo}
+use Rattle.answer.specs.Ask.{firstNo}
+use Rattle.answer.proofs.Asked.{reply-keeps}
 use Rattle.answer.proofs.Bools.{by-bool, tf, and-join, and-parts}
 use Rattle.lists.specs.Arrays.{everyTail, every}
 use Rattle.lists.specs.Kinds.{different, kinds}
@@ -19,11 +20,11 @@ use Rattle.flow.specs.Rules.{sameAction, sameKey, ruleKey}
 use Rattle.flow.specs.declared.Action.{Action}
 use Rattle.flow.specs.declared.Action.the-variants.{Remove, Set}
 use Rattle.flow.proofs.Order.{key-sound, key-mine}
-use Rattle.playbook.specs.Limits.{maxPlans, maxChanges, maxKeys, switchCount}
+use Rattle.playbook.specs.Limits.{maxPlans, maxChanges, maxKeys, switchCount, planSize, changeSize, endSize}
 use Rattle.playbook.specs.Books.{Book, noPlans, emptyPlan, emptyRule, emptyChange, meaning, storeOf}
 use Rattle.playbook.specs.Books.{Trigger, triggerOf, sameTrigger, hasTrigger, keysOn, kindsOn}
 use Rattle.playbook.specs.Books.{countLast, withPlan, withChange, planQuestions, changeQuestions}
-use Rattle.playbook.specs.Reading.{refusal, follow, readFrom, readFirst, readWhole}
+use Rattle.playbook.specs.Reading.{refusal, finished, follow, readFrom, readFirst, readWhole}
 use Rattle.playbook.specs.Records.{recordAt}
 use Rattle.playbook.specs.Storing.{spans, changeOk, fewKeysBelow, bookOk, planEmpty, changeEmpty, storedOk}
 use Rattle.playbook.specs.declared.Change.{Change}
@@ -247,17 +248,41 @@ change-back b c h =
       }),
     )
 
--- what holds of every refusal, and of what follows where every answer is yes, holds of the reply
-reply-keeps : {A : Type 0} (P : A → Type 0) (qs : List Question) (refuse : ℕ → A) (next : A)
-    → ((k : ℕ) → P (refuse k)) → (firstNo qs ≡ 0 → P next) → P (reply qs refuse next)
-unfolding reply
-reply-keeps P [] refuse next refused asked = asked refl
-reply-keeps P ((k, true) ∷ qs) refuse next refused asked = reply-keeps P qs refuse next refused asked
-reply-keeps P ((k, false) ∷ qs) refuse next refused asked = refused k
-
-none-ok : bookOk noPlans ≡ true
+-- the empty book
+pub none-ok : bookOk noPlans ≡ true
 unfolding bookOk spans different everyTail fewKeysBelow keysOn kinds
 none-ok = refl
+
+-- reading, by what is so of the bytes passed and the book so far: what every refusal has, and every end that the book
+-- leads to, every reading has
+module _ (P : Outcome → Type 0) (SoFar : ℕ → Book → Type 0)
+    (refuses : (k : ℕ) → P (refusal k))
+    (ends : (used : ℕ) (b : Book) → SoFar used b → P (finished (used + endSize) b))
+    (opens : (used : ℕ) (b : Book) (t : Trigger) → SoFar used b → firstNo (planQuestions b t) ≡ 0
+    → SoFar (used + planSize) (withPlan b t))
+    (lists : (used : ℕ) (b : Book) (c : Change) → SoFar used b → firstNo (changeQuestions b c) ≡ 0
+    → SoFar (used + changeSize) (withChange b c)) where
+  follow-keeps : (r : Record) (used : ℕ) (b : Book) (on : ℕ → Book → Outcome) → SoFar used b
+      → ((skip : ℕ) (next : Book) → SoFar (used + suc skip) next → P (on skip next))
+      → P (follow r b (finished (used + endSize) b) on)
+  follow-keeps (Refused k) used b on h f = refuses k
+  follow-keeps Ends used b on h f = ends used b h
+  follow-keeps (Opens s c) used b on h f =
+      reply-keeps P (planQuestions b (s, c)) refusal _ refuses (λ pass. f _ _ (opens used b (s, c) h pass))
+  follow-keeps (Lists c) used b on h f =
+      reply-keeps P (changeQuestions b c) refusal _ refuses (λ pass. f _ _ (lists used b c h pass))
+
+  pub read-keeps : (skip : ℕ) (s : List ℕ) (used : ℕ) (b : Book) → SoFar (used + skip) b → P (readFrom skip s used b)
+  unfolding readFrom
+  read-keeps skip [] used b h = refuses 30
+  read-keeps (suc skip) (x ∷ xs) used b h =
+      let e : used + suc skip ≡ used + 1 + skip = omega arith in
+      read-keeps skip xs (used + 1) b (rw e at h)
+  read-keeps zero (x ∷ xs) used b h =
+      let z : used + 0 ≡ used = omega arith in
+      follow-keeps (recordAt (x ∷ xs)) used b _ (rw z at h)
+      (λ skip next k. let e : used + suc skip ≡ used + 1 + skip = omega arith in
+      read-keeps skip xs (used + 1) next (rw e at k))
 
 -- a store that reading leaves
 abbrev Left : Outcome → Type 0
@@ -266,25 +291,11 @@ Left r = storedOk (r .playbook) ≡ true
 refusal-left : (k : ℕ) → Left (refusal k)
 refusal-left k = book-stored noPlans none-ok
 
-follow-left : (r : Record) (b : Book) (end : Outcome) (on : ℕ → Book → Outcome) → bookOk b ≡ true → Left end
-    → ((skip : ℕ) (next : Book) → bookOk next ≡ true → Left (on skip next)) → Left (follow r b end on)
-follow-left (Refused k) b end on h l f = refusal-left k
-follow-left Ends b end on h l f = l
-follow-left (Opens s c) b end on h l f =
-    reply-keeps Left (planQuestions b (s, c)) refusal _ refusal-left (λ pass. f _ _ (plan-kept b (s, c) h pass))
-follow-left (Lists c) b end on h l f =
-    reply-keeps Left (changeQuestions b c) refusal _ refusal-left (λ pass. f _ _ (change-kept b c h pass))
-
-read-left : (skip : ℕ) (s : List ℕ) (used : ℕ) (b : Book) → bookOk b ≡ true → Left (readFrom skip s used b)
-unfolding readFrom
-read-left skip [] used b h = refusal-left 30
-read-left (suc skip) (x ∷ xs) used b h = read-left skip xs (used + 1) b h
-read-left zero (x ∷ xs) used b h =
-    follow-left (recordAt (x ∷ xs)) b _ _ h (book-stored b h) (λ skip next k. read-left skip xs (used + 1) next k)
-
 -- so every reading leaves a stored playbook, refused or not
 pub read-first-stored : (s : List ℕ) → storedOk (readFirst s .playbook) ≡ true
-read-first-stored s = read-left 0 s 0 noPlans none-ok
+read-first-stored s =
+    read-keeps Left (λ used b. bookOk b ≡ true) refusal-left (λ used b h. book-stored b h)
+    (λ used b t h pass. plan-kept b t h pass) (λ used b c h pass. change-kept b c h pass) 0 s 0 noPlans none-ok
 
 pub read-stored : (s : List ℕ) → storedOk (readWhole s .playbook) ≡ true
 read-stored s =

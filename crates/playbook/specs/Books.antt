@@ -1,7 +1,7 @@
 -- A playbook as lists, the store that holds it, and what a plan and a change do to it (document 01, "Bytes" and the
 -- playbook's questions). Assumes nothing.
 use Prim.Native.Nat.{ℕ, _+_}
-use mathlib.Core.Bool.{Bool, true, false, not, _&&_}
+use mathlib.Core.Bool.{Bool, not, _&&_}
 use mathlib.Core.List.{List, [], _∷_, _++_, map}
 use lib.ListN.{length, take}
 use lib.Dec.{ltb, leb, eqb}
@@ -60,10 +60,11 @@ sameTrigger t u = eqb (t .0) (u .0) && eqb (t .1) (u .1)
 abbrev pub hasTrigger : Trigger → List Plan → Bool
 hasTrigger t qs = among sameTrigger t (map triggerOf qs)
 
--- the prefixes with lengths of the changes on a switch, and how many different ones these are
+-- whether a change is on a switch, set or removal
 abbrev pub isOn : ℕ → Change → Bool
 isOn s c = eqb (c .switch) s
 
+-- the prefixes with lengths of the changes on a switch, and how many different ones these are
 unfoldable pub keysOn : ℕ → List Change → List Key
 keysOn s [] = []
 keysOn s (c ∷ cs) = pick (isOn s c) (ruleKey (c .rule) ∷ keysOn s cs) (keysOn s cs)

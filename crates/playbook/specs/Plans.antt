@@ -1,5 +1,4 @@
 -- The plan of a switch and cause, and its changes (document 01, "Controller end"). Assumes nothing.
-use Prim.Native.Nat.{ℕ}
 use mathlib.Core.List.{List, [], _∷_}
 use lib.ListN.{take, drop}
 use Rattle.answer.specs.Ask.{pick}

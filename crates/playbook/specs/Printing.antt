@@ -10,7 +10,7 @@ use Rattle.lists.specs.Arrays.{every}
 use Rattle.lists.specs.Bytes.{be}
 use Rattle.flow.specs.Rules.{portOf}
 use Rattle.playbook.specs.Limits.{planKind, changeKind, endKind}
-use Rattle.playbook.specs.Books.{Book, meaning}
+use Rattle.playbook.specs.Books.{meaning}
 use Rattle.playbook.specs.declared.Change.{Change}
 use Rattle.playbook.specs.declared.Plan.{Plan}
 use Rattle.playbook.specs.declared.Playbook.{Playbook}

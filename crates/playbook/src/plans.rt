@@ -3,7 +3,7 @@ ghost use mathlib.Core.Path.{_≡_};
 ghost use Prim.Native.Nat.{_≤_};
 ghost use lib.ListN.{take, drop};
 ghost use Rattle.playbook.specs.Limits.{maxPlans};
-ghost use Rattle.playbook.specs.Books.{triggerOf, sameTrigger, hasTrigger, newPlan};
+ghost use Rattle.playbook.specs.Books.{meaning, triggerOf, sameTrigger, hasTrigger, newPlan};
 ghost use Rattle.playbook.specs.Plans.{planOf};
 use crate::Plan;
 use crate::Playbook;
@@ -54,7 +54,7 @@ fn no_plan(switch: u8, cause: u8) -> Plan
 
 // The plan of a switch and cause; without one, a plan with no changes. Of every store, the plans in use are looked at.
 pub fn plan_of(p: Playbook, switch: u8, cause: u8) -> Plan
-    ensures { λ r. ⌜ r ≡ planOf (switch, cause) (take (p .planned) (p .plans)) ⌝ }
+    ensures { λ r. ⌜ r ≡ planOf (switch, cause) (meaning p .plans) ⌝ }
 {
     let plans = p.plans;
     let n = p.planned;
