@@ -60,3 +60,10 @@ actionOf port = pick (eqb port 0) Remove (Set port)
 
 abbrev pub ruleOf : ℕ → ℕ → ℕ → Rule
 ruleOf prefix length port = record { prefix = prefix; length = length; action = actionOf port }
+
+-- the rule in unused places, and whether a rule is this one
+abbrev pub emptyRule : Rule
+emptyRule = record { prefix = 0; length = 0; action = Remove }
+
+abbrev pub ruleEmpty : Rule → Bool
+ruleEmpty r = sameRule r emptyRule

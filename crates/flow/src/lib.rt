@@ -10,9 +10,11 @@ pub use changes::room;
 pub use lookups::lookup;
 pub use rules::port_of;
 pub use rules::port_ok;
+pub use rules::rule_empty;
 pub use rules::rule_of;
 pub use rules::same_rule;
 pub use rules::well_formed;
+pub use tables::empty_table;
 pub use tables::table_ok;
 
 // What a rule does: removes its entry, or sets it to a port.

@@ -1,7 +1,7 @@
 // Prefixes with lengths, and rules.
 ghost use mathlib.Core.Path.{_≡_};
 ghost use Rattle.flow.specs.Rules.{sizeOf, prefixOk, portOk, wellFormed, before, sameKey, sameAction, sameRule};
-ghost use Rattle.flow.specs.Rules.{portOf, actionOf, ruleOf};
+ghost use Rattle.flow.specs.Rules.{portOf, actionOf, ruleOf, ruleEmpty};
 use crate::Action;
 use crate::Rule;
 
@@ -127,4 +127,18 @@ pub fn rule_of(prefix: u32, length: u8, port: u16) -> Rule
         length: length,
         action: action,
     }
+}
+
+// Whether a rule is the one in unused places.
+pub fn rule_empty(rule: Rule) -> bool
+    ensures { λ r. ⌜ r ≡ ruleEmpty rule ⌝ }
+{
+    same_rule(
+        rule,
+        Rule {
+            prefix: 0,
+            length: 0,
+            action: Action::Remove,
+        },
+    )
 }

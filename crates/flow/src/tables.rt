@@ -1,13 +1,28 @@
-// The limits of a flow table, and its entries in use.
+// The empty flow table, the entries in use, and the limits.
 ghost use mathlib.Core.Path.{_≡_};
 ghost use Prim.Native.Nat.{_≤_, _<_};
 ghost use lib.ListN.{take, drop};
+ghost use mathlib.Core.List.{[]};
 ghost use Rattle.lists.specs.Arrays.{everyTail, every};
-ghost use Rattle.flow.specs.Tables.{meaning, headOk, isEmpty, tableOk};
+ghost use Rattle.flow.specs.Tables.{meaning, tableOf, headOk, isEmpty, tableOk};
 use crate::Entry;
 use crate::Table;
 use crate::rules::is_before;
 use crate::rules::prefix_ok;
+
+// The table with no entries.
+pub fn empty_table() -> Table
+    ensures { λ r. ⌜ r ≡ tableOf [] ⌝ }
+{
+    Table {
+        entries: [Entry {
+            prefix: 0,
+            length: 0,
+            port: 0,
+        }; 64],
+        count: 0,
+    }
+}
 
 // How many entries are in use: the count, or all of them.
 pub(crate) fn used(t: Table) -> usize

@@ -1,6 +1,7 @@
 -- Laws of lists, for every crate above.
 pub mod Stores
 pub mod Tails
+pub mod Counts
 pub mod Padding
 pub mod Members
 pub mod Pigeonhole

@@ -1,12 +1,12 @@
 -- Tests of every element or every tail of a list: the turns of a loop that makes them from the front, and what they
 -- say of each element and of parts of the list. Assumes nothing.
 use mathlib.Core.Path.{_≡_, refl, sym, ap, _∙_}
-use mathlib.Core.List.{List, [], _∷_, _++_}
+use mathlib.Core.List.{List, [], _∷_, _++_, map}
 use mathlib.Core.Bool.{Bool, true, _&&_, and-true, and-assoc}
 use Prim.Native.Nat.{ℕ, zero, suc, _+_, _≤_, _<_}
 use native.Mathlib.Numerals.{add-one}
 use native.Mathlib.Omega.{arith}
-use lib.ListN.{length, take, drop, getD, replicate, drop-of-length-le}
+use lib.ListN.{length, take, drop, getD, set, replicate, drop-of-length-le}
 use lib.Seq.{drop-cons}
 use Rattle.answer.proofs.Bools.{and-join, and-parts}
 use Rattle.lists.specs.Arrays.{everyTail, onHead, every}
@@ -73,3 +73,32 @@ module _ {A : Type 0} (f : A → Bool) where
   unfolding everyTail
   every-snoc [] x = and-true (f x)
   every-snoc (y ∷ l) x = rw (every-snoc l x) (sym (and-assoc (f y) (every f l) (f x)))
+
+  -- one stored over another, and the elements of a map
+  pub every-set : (l : List A) (i : ℕ) (x : A) → every f l ≡ true → f x ≡ true → every f (set l i x) ≡ true
+  unfolding everyTail
+  every-set [] i x h e = refl
+  every-set (y ∷ l) zero x h e = and-join (f x) _ e (and-parts (f y) (every f l) h .1)
+  every-set (y ∷ l) (suc i) x h e =
+      let t = and-parts (f y) (every f l) h in
+      and-join (f y) _ (t .0) (every-set l i x (t .1) e)
+
+  pub every-map : {B : Type 0} (g : B → Bool) (m : B → A) → ((x : B) → g x ≡ true → f (m x) ≡ true) → (l : List B)
+      → every g l ≡ true → every f (map m l) ≡ true
+  unfolding everyTail
+  every-map g m p [] h = refl
+  every-map g m p (x ∷ l) h =
+      let t = and-parts (g x) (every g l) h in
+      and-join (f (m x)) _ (p x (t .0)) (every-map g m p l (t .1))
+
+-- a beginning and a rest of a map
+module _ {A B : Type 0} (f : A → B) where
+  pub take-map : (n : ℕ) (l : List A) → take n (map f l) ≡ map f (take n l)
+  take-map zero l = refl
+  take-map (suc n) [] = refl
+  take-map (suc n) (x ∷ l) = ap (λ (r : List B). f x ∷ r) (take-map n l)
+
+  pub drop-map : (n : ℕ) (l : List A) → drop n (map f l) ≡ map f (drop n l)
+  drop-map zero l = refl
+  drop-map (suc n) [] = refl
+  drop-map (suc n) (x ∷ l) = drop-map n l

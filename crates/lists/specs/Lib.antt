@@ -1,4 +1,5 @@
--- Lists as arrays, different members of a list, and numbers as bytes.
+-- Lists as arrays, different members of a list, counting, and numbers as bytes.
 pub mod Arrays
 pub mod Kinds
+pub mod Counts
 pub mod Bytes

@@ -1,4 +1,5 @@
--- How a message lies in its bytes, what reading them gives, and what writing does to a frame.
+-- How a message lies in its bytes, what reading them gives, what writing does to a frame, and keys.
 pub mod Layout
 pub mod Reading
 pub mod Writing
+pub mod Keys

@@ -3,6 +3,7 @@
 use flow::Rule;
 
 mod fields;
+pub mod keys;
 pub mod layout;
 mod reading;
 mod writing;
@@ -11,6 +12,7 @@ pub use reading::is_sealed;
 pub use reading::number;
 pub use reading::read;
 pub use writing::fits;
+pub use writing::length_of;
 pub use writing::write;
 
 // The end at which a message is received.

@@ -90,7 +90,7 @@ fn put(part: &mut [u8], m: Message, key: &[u8])
 }
 
 // The bytes that a message takes, its tag among them; a refusal takes none.
-fn length_of(m: Message) -> usize
+pub fn length_of(m: Message) -> usize
     ensures { λ r. ⌜ r ≡ lengthOf m ⌝ }
 {
     match m {

@@ -16,12 +16,11 @@ use Rattle.lists.specs.Kinds.{different, kinds}
 use Rattle.lists.proofs.Members.{different-snoc}
 use Rattle.lists.proofs.Padding.{pad-unused, as-padded}
 use Rattle.lists.proofs.Tails.{every-snoc}
-use Rattle.flow.specs.Rules.{sameAction, sameKey, ruleKey}
-use Rattle.flow.specs.declared.Action.{Action}
-use Rattle.flow.specs.declared.Action.the-variants.{Remove, Set}
+use Rattle.flow.specs.Rules.{emptyRule}
+use Rattle.flow.proofs.Actions.{rule-sound}
 use Rattle.flow.proofs.Order.{key-sound, key-mine}
 use Rattle.playbook.specs.Limits.{maxPlans, maxChanges, maxKeys, switchCount, planSize, changeSize, endSize}
-use Rattle.playbook.specs.Books.{Book, noPlans, emptyPlan, emptyRule, emptyChange, meaning, storeOf}
+use Rattle.playbook.specs.Books.{Book, noPlans, emptyPlan, emptyChange, meaning, storeOf}
 use Rattle.playbook.specs.Books.{Trigger, triggerOf, sameTrigger, hasTrigger, keysOn, kindsOn}
 use Rattle.playbook.specs.Books.{countLast, withPlan, withChange, planQuestions, changeQuestions}
 use Rattle.playbook.specs.Reading.{refusal, finished, follow, readFrom, readFirst, readWhole}
@@ -116,21 +115,14 @@ only-empty-plan q h =
       count = eqb-true (q .count) 0 (a .1) i;
     }
 
-only-removal : (a : Action) → sameAction a Remove ≡ true → a ≡ Remove
-only-removal Remove h = refl
-only-removal (Set port) h = tf h refl
-
 only-empty-change : (c : Change) → changeEmpty c ≡ true → c ≡ emptyChange
 only-empty-change c h =
     let a = and-parts (eqb (c .flow) 0 && eqb (c .switch) 0) _ h in
     let b = and-parts (eqb (c .flow) 0) _ (a .0) in
-    let r = and-parts (sameKey (ruleKey (c .rule)) (ruleKey emptyRule)) _ (a .1) in
-    let k = key-sound (ruleKey (c .rule)) (ruleKey emptyRule) (r .0) in
-    let act = only-removal (c .rule .action) (r .1) in
     λ i. record {
       flow = eqb-true (c .flow) 0 (b .0) i;
       switch = eqb-true (c .switch) 0 (b .1) i;
-      rule = record { prefix = k i .0; length = k i .1; action = act i };
+      rule = rule-sound (c .rule) emptyRule (a .1) i;
     }
 
 -- a stored store is what it means

@@ -8,9 +8,7 @@ use lib.Dec.{ltb, leb, eqb}
 use Rattle.answer.specs.Ask.{Question, pick, reply}
 use Rattle.lists.specs.Arrays.{pad}
 use Rattle.lists.specs.Kinds.{among, kinds}
-use Rattle.flow.specs.Rules.{Key, ruleKey, sameKey, wellFormed}
-use Rattle.flow.specs.declared.Action.the-variants.{Remove}
-use Rattle.flow.specs.declared.Rule.{Rule}
+use Rattle.flow.specs.Rules.{Key, ruleKey, sameKey, wellFormed, emptyRule}
 use Rattle.playbook.specs.Limits.{maxPlans, maxChanges, maxOfPlan, maxKeys, switchCount}
 use Rattle.playbook.specs.declared.Change.{Change}
 use Rattle.playbook.specs.declared.Plan.{Plan}
@@ -28,9 +26,6 @@ noPlans = record { plans = []; changes = [] }
 -- what stands in unused places
 abbrev pub emptyPlan : Plan
 emptyPlan = record { switch = 0; cause = 0; first = 0; count = 0 }
-
-abbrev pub emptyRule : Rule
-emptyRule = record { prefix = 0; length = 0; action = Remove }
 
 abbrev pub emptyChange : Change
 emptyChange = record { flow = 0; switch = 0; rule = emptyRule }

@@ -7,9 +7,9 @@ use lib.ListN.{length, getD, drop}
 use lib.Dec.{ltb, leb, eqb}
 use Rattle.lists.specs.Arrays.{every}
 use Rattle.lists.specs.Kinds.{different}
-use Rattle.flow.specs.Rules.{Key, wellFormed, sameRule}
+use Rattle.flow.specs.Rules.{Key, wellFormed, ruleEmpty}
 use Rattle.playbook.specs.Limits.{maxPlans, maxChanges, maxOfPlan, maxKeys, switchCount}
-use Rattle.playbook.specs.Books.{Book, emptyRule, meaning, triggerOf, sameTrigger, keysOn, kindsOn}
+use Rattle.playbook.specs.Books.{Book, meaning, triggerOf, sameTrigger, keysOn, kindsOn}
 use Rattle.playbook.specs.declared.Change.{Change}
 use Rattle.playbook.specs.declared.Plan.{Plan}
 use Rattle.playbook.specs.declared.Playbook.{Playbook}
@@ -42,7 +42,7 @@ abbrev pub planEmpty : Plan → Bool
 planEmpty q = eqb (q .switch) 0 && eqb (q .cause) 0 && eqb (q .first) 0 && eqb (q .count) 0
 
 abbrev pub changeEmpty : Change → Bool
-changeEmpty c = eqb (c .flow) 0 && eqb (c .switch) 0 && sameRule (c .rule) emptyRule
+changeEmpty c = eqb (c .flow) 0 && eqb (c .switch) 0 && ruleEmpty (c .rule)
 
 -- counts within the store, what is in use within the limits, and unused places zero
 unfoldable pub storedOk : Playbook → Bool

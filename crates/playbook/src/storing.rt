@@ -14,8 +14,6 @@ use crate::Playbook;
 use crate::keys::keys_ok;
 use crate::limits;
 use crate::plans::has_trigger;
-use flow::Action;
-use flow::Rule;
 
 // Whether the first n plans are on known switches, none too long, and have their changes one after another to an end.
 fn spans_ok(plans: [Plan; limits::PLANS], n: usize, end: usize) -> bool
@@ -119,14 +117,7 @@ fn change_empty(c: Change) -> bool
     if c.flow == 0 {
         if c.switch == 0 {
             let rule = c.rule;
-            flow::same_rule(
-                rule,
-                Rule {
-                    prefix: 0,
-                    length: 0,
-                    action: Action::Remove,
-                },
-            )
+            flow::rule_empty(rule)
         } else {
             false
         }

@@ -1,9 +1,17 @@
 // Runs the cases of standard input through message and playbook, and prints a line for each. A case is a letter, two
 // bytes of length and that many bytes. tests/trials.py makes the cases, and works out the lines from document 01 alone.
+use cases::byte_at;
+use cases::say;
+use cases::say_byte;
+use cases::say_hex;
+use cases::say_rule;
+use cases::say_size;
+use cases::say_word;
+use cases::u16_at;
+use cases::u32_at;
 use flow::Action;
 use flow::Rule;
 use libc::STDIN_FILENO;
-use libc::STDOUT_FILENO;
 use message::End;
 use message::Message;
 use playbook::Change;
@@ -13,52 +21,6 @@ use playbook::Playbook;
 
 // The key of every message here.
 const KEY: [u8; 32] = [0x0b; 32];
-
-fn say(text: &[u8]) {
-    io::write_all(STDOUT_FILENO, text);
-}
-
-fn say_number(n: u64) {
-    say(b" ");
-    io::print_decimal(STDOUT_FILENO, n);
-}
-
-fn say_byte(n: u8) {
-    say_number(n as u64);
-}
-
-fn say_word(n: u32) {
-    say_number(n as u64);
-}
-
-fn say_size(n: usize) {
-    say_number(n as u64);
-}
-
-fn say_hex_byte(n: u8) {
-    io::print_hex(STDOUT_FILENO, n as u64, 2);
-}
-
-fn say_hex(bytes: &[u8]) {
-    let mut i: usize = 0;
-    while i < bytes.len() {
-        say_hex_byte(bytes[i]);
-        i += 1;
-    }
-}
-
-// The byte at a place, 0 past the end.
-fn byte_at(s: &[u8], i: usize) -> u8 {
-    if i < s.len() { s[i] } else { 0 }
-}
-
-fn say_rule(rule: Rule) {
-    let action = rule.action;
-    let port = flow::port_of(action);
-    say_word(rule.prefix);
-    say_byte(rule.length);
-    say_number(port as u64);
-}
 
 fn say_message(m: Message) {
     match m {
@@ -126,13 +88,8 @@ fn action_of(kind: u8, port: u16) -> Action {
 }
 
 fn share_of(s: &[u8]) -> Message {
-    let prefix = lists::u32_of(
-        byte_at(s, 16),
-        byte_at(s, 17),
-        byte_at(s, 18),
-        byte_at(s, 19),
-    );
-    let port = lists::u16_of(byte_at(s, 22), byte_at(s, 23));
+    let prefix = u32_at(s, 16);
+    let port = u16_at(s, 22);
     let action = action_of(byte_at(s, 21), port);
     let rule = Rule {
         prefix: prefix,
@@ -142,12 +99,7 @@ fn share_of(s: &[u8]) -> Message {
     Message::Share {
         controller: byte_at(s, 10),
         switch: byte_at(s, 11),
-        number: lists::u32_of(
-            byte_at(s, 12),
-            byte_at(s, 13),
-            byte_at(s, 14),
-            byte_at(s, 15),
-        ),
+        number: u32_at(s, 12),
         rule: rule,
     }
 }
@@ -155,12 +107,7 @@ fn share_of(s: &[u8]) -> Message {
 // The message to write: its kind at 9, its fields from 10 on.
 fn message_of(s: &[u8]) -> Message {
     let kind = byte_at(s, 9);
-    let number = lists::u32_of(
-        byte_at(s, 12),
-        byte_at(s, 13),
-        byte_at(s, 14),
-        byte_at(s, 15),
-    );
+    let number = u32_at(s, 12);
     if kind == 1 {
         return Message::Event {
             switch: byte_at(s, 10),
@@ -183,8 +130,8 @@ fn message_of(s: &[u8]) -> Message {
 }
 
 fn offset_of(s: &[u8]) -> usize {
-    let high = lists::u32_of(byte_at(s, 1), byte_at(s, 2), byte_at(s, 3), byte_at(s, 4));
-    let low = lists::u32_of(byte_at(s, 5), byte_at(s, 6), byte_at(s, 7), byte_at(s, 8));
+    let high = u32_at(s, 1);
+    let low = u32_at(s, 5);
     let wide = (high as u64) * 4294967296 + (low as u64);
     wide as usize
 }
@@ -407,7 +354,7 @@ fn run_case(letter: u8, s: &[u8]) {
 
 // The length of the first case's bytes.
 fn length_of(s: &[u8]) -> usize {
-    lists::u16_of(byte_at(s, 1), byte_at(s, 2)) as usize
+    u16_at(s, 1) as usize
 }
 
 fn run(s: &[u8]) {

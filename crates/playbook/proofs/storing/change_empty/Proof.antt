@@ -7,7 +7,7 @@ use Rattle.playbook.proofs.storing.change_empty.Tie as tie
 returns : tie.Need-returns
 returns c =
     rw (eq-eqb _ _ (c .before .before .before .before .if1 .taken), eq-eqb _ _ (c .before .before .if2 .taken))
-    (c .same-rule .ensures)
+    (c .rule-empty .ensures)
 
 returns-2 : tie.Need-returns-2
 returns-2 c = rw (eq-eqb _ _ (c .before .before .if1 .taken), ne-eqb _ _ (c .if2 .left))

@@ -2,8 +2,8 @@
 use Prim.Native.Nat.{_≤_, _-_}
 use lib.ListN.{length}
 use borrow.Author.Needs.{needs}
-use Rattle.trials.proofs.say_hex.Statement.{statement}
-use Rattle.trials.proofs.say_hex.Tie as tie
+use Rattle.cases.proofs.say_hex.Statement.{statement}
+use Rattle.cases.proofs.say_hex.Tie as tie
 
 abbrev Inv-loop : tie.InvT-loop
 Inv-loop bytes i₀ i = i ≤ length bytes

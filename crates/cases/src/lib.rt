@@ -1,0 +1,82 @@
+// What the test programs share: the fields of a case, and values printed. Nothing that is delivered rests on it.
+ghost use mathlib.Core.Path.{_≡_};
+ghost use mathlib.Core.List.{[], _∷_};
+ghost use Prim.Native.Nat.{_+_};
+ghost use Rattle.lists.specs.Bytes.{num, byteAt};
+use flow::Rule;
+use libc::STDOUT_FILENO;
+
+pub fn say(text: &[u8]) {
+    io::write_all(STDOUT_FILENO, text);
+}
+
+pub fn say_number(n: u64) {
+    say(b" ");
+    io::print_decimal(STDOUT_FILENO, n);
+}
+
+pub fn say_byte(n: u8) {
+    say_number(n as u64);
+}
+
+pub fn say_port(n: u16) {
+    say_number(n as u64);
+}
+
+pub fn say_word(n: u32) {
+    say_number(n as u64);
+}
+
+pub fn say_size(n: usize) {
+    say_number(n as u64);
+}
+
+fn say_hex_byte(n: u8) {
+    io::print_hex(STDOUT_FILENO, n as u64, 2);
+}
+
+pub fn say_hex(bytes: &[u8]) {
+    let mut i: usize = 0;
+    while i < bytes.len() {
+        say_hex_byte(bytes[i]);
+        i += 1;
+    }
+}
+
+pub fn say_rule(rule: Rule) {
+    let action = rule.action;
+    let port = flow::port_of(action);
+    say_word(rule.prefix);
+    say_byte(rule.length);
+    say_port(port);
+}
+
+// The byte at a place, 0 past the end.
+pub fn byte_at(s: &[u8], i: usize) -> u8
+    ensures { λ r. ⌜ r ≡ byteAt (now (s .entry)) i ⌝ }
+{
+    if i < s.len() { s[i] } else { 0 }
+}
+
+// The numbers in the two and in the four bytes from a place.
+pub fn u16_at(s: &[u8], place: u8) -> u16
+    ensures { λ r. ⌜ r
+        ≡ num (byteAt (now (s .entry)) place ∷ byteAt (now (s .entry)) (place + 1) ∷ []) ⌝ }
+{
+    let i = place as usize;
+    lists::u16_of(byte_at(s, i), byte_at(s, i + 1))
+}
+
+pub fn u32_at(s: &[u8], place: u8) -> u32
+    ensures { λ r. ⌜ r
+        ≡ num (byteAt (now (s .entry)) place ∷ byteAt (now (s .entry)) (place + 1)
+        ∷ byteAt (now (s .entry)) (place + 2) ∷ byteAt (now (s .entry)) (place + 3) ∷ []) ⌝ }
+{
+    let i = place as usize;
+    lists::u32_of(
+        byte_at(s, i),
+        byte_at(s, i + 1),
+        byte_at(s, i + 2),
+        byte_at(s, i + 3),
+    )
+}

@@ -1,0 +1,13 @@
+-- The key store of an end (document 01, question 21): a key for each end that it talks to, one after another.
+-- Assumes nothing.
+use Prim.Native.Nat.{ℕ, _*_}
+use mathlib.Core.List.{List}
+use lib.ListN.{take, drop}
+
+-- the bytes of a key
+abbrev pub keyLength : ℕ
+keyLength = 32
+
+-- the key of the end with a number
+abbrev pub keyAt : List ℕ → ℕ → List ℕ
+keyAt keys i = take keyLength (drop (keyLength * i) keys)

@@ -1,0 +1,11 @@
+-- Laws of the switch end. Bits and Steps are for this crate's own functions.
+pub mod Within
+pub mod Passing
+pub mod Taken
+pub mod Sent
+pub mod Kept
+pub mod Effects
+pub mod Agreement
+pub mod Once
+mod Bits
+mod Steps

@@ -1,0 +1,57 @@
+-- What a share that passes questions 15 to 19 obeys, and that it then passes them. Assumes nothing.
+use mathlib.Core.Path.{_≡_}
+use mathlib.Core.Bool.{true, false, not}
+use Prim.Native.Nat.{ℕ, _≤_, _<_}
+use lib.Dec.{ltb, leb, eqb}
+use borrow.Author.Tests.{ltb-true, leb-true, lt-ltb, le-leb, eq-eqb, ne-eqb}
+use Rattle.answer.specs.Ask.{firstNo, reply}
+use Rattle.answer.proofs.Asked.{passed}
+use Rattle.answer.proofs.Bools.{by-or, or-right, by-eq, tf}
+use Rattle.flow.specs.Rules.{wellFormed}
+use Rattle.flow.specs.Tables.{meaning}
+use Rattle.flow.specs.Changes.{roomFor}
+use Rattle.flow.specs.declared.Rule.{Rule}
+use Rattle.flow.proofs.Actions.{rule-sound, rule-mine}
+use Rattle.switch.specs.Shares.{keepsRule, shareQuestions}
+use Rattle.switch.specs.declared.Slot.{Slot}
+use Rattle.switch.specs.declared.Switch.{Switch}
+
+pub record Passes (s : Switch) (slot : Slot) (number : ℕ) (rule : Rule) : Type 0 where
+  pub formed : wellFormed rule ≡ true
+  pub above : s .last < number
+  pub latest : slot .number ≤ number
+  pub same : slot .number ≡ number → slot .rule ≡ rule
+  pub room : roomFor rule (meaning (s .table)) ≡ true
+
+module _ (s : Switch) (slot : Slot) (number : ℕ) (rule : Rule) where
+  kept-rule : keepsRule slot number rule ≡ true → slot .number ≡ number → slot .rule ≡ rule
+  kept-rule h e =
+      by-or (not (eqb (slot .number) number)) _ h
+      (λ other. let n : not (eqb (slot .number) number) ≡ false = rw (eq-eqb _ _ e) in tf other n)
+      (λ same. rule-sound (slot .rule) rule same)
+
+  keeps : (slot .number ≡ number → slot .rule ≡ rule) → keepsRule slot number rule ≡ true
+  keeps h =
+      by-eq (slot .number) number
+      (λ e. or-right (not (eqb (slot .number) number)) _ (rw (h e) (rule-mine rule)))
+      (λ n. rw (ne-eqb _ _ n))
+
+  pub passes : firstNo (shareQuestions s slot number rule) ≡ 0 → Passes s slot number rule
+  passes h =
+      let a = passed 14 (wellFormed rule) _ h in
+      let b = passed 15 (ltb (s .last) number) _ (a .1) in
+      let c = passed 16 (leb (slot .number) number) _ (b .1) in
+      let d = passed 17 (keepsRule slot number rule) _ (c .1) in
+      let e = passed 18 (roomFor rule (meaning (s .table))) _ (d .1) in
+      record {
+        formed = a .0;
+        above = ltb-true _ _ (b .0);
+        latest = leb-true _ _ (c .0);
+        same = kept-rule (d .0);
+        room = e .0;
+      }
+
+  pub passing : Passes s slot number rule → firstNo (shareQuestions s slot number rule) ≡ 0
+  unfolding reply
+  passing p =
+      rw (p .formed, lt-ltb _ _ (p .above), le-leb _ _ (p .latest), keeps (p .same), p .room)

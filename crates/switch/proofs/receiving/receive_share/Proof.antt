@@ -1,0 +1,35 @@
+-- `receive_share` meets its contract: the branch answers questions 12 to 14, of which the first gives a known sender.
+-- Assumes nothing.
+use mathlib.Core.Path.{_≡_, refl, sym, _∙_}
+use native.Mathlib.Omega.{arith}
+use borrow.Author.Needs.{needs}
+use borrow.Author.Tests.{ltb-true}
+use lib.Dec.{ltb}
+use Rattle.answer.specs.Ask.{firstNo}
+use Rattle.answer.proofs.Asked.{Numbered, all-yes, passed}
+use Rattle.switch.specs.Receiving.{senderQuestions}
+use Rattle.switch.proofs.Steps.{stopped}
+use Rattle.switch.proofs.receiving.receive_share.Statement.{statement}
+use Rattle.switch.proofs.receiving.receive_share.Tie as tie
+
+returns : tie.Need-returns
+returns c = stopped _ _ _ (c .before .sender-question .ensures) (λ e. omega arith)
+
+-- questions 12 to 14 answered yes
+known : (c : tie.Else1)
+    → let a = c .before .before .before .before .args in
+    firstNo (senderQuestions (a .s) (a .keys .now) (a .bytes .now) (a .controller) (a .receiver)) ≡ 0
+known c = sym (c .before .sender-question .ensures) ∙ omega arith
+
+take-share-requires : tie.Need-take-share-requires
+take-share-requires c κs =
+    let s = c .before .before .before .before in
+    let a = s .args in
+    (s .pre .0, ltb-true _ _ (passed 11 (ltb (a .controller) (a .s .n)) _ (known c) .0))
+
+returns-2 : tie.Need-returns-2
+unfolding Numbered
+returns-2 c = c .take-share .ensures ∙ sym (all-yes _ _ _ refl (known (c .before)))
+
+pub receive-share-spec : {M : Type 1} → statement M
+receive-share-spec = tie.close (tie.spec (λ c κs. search needs) returns take-share-requires returns-2)

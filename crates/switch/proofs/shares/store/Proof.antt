@@ -1,0 +1,16 @@
+-- `store` meets its contract: the branch decides the quorum, counted with the share in its slot. Assumes nothing.
+use mathlib.Core.Path.{sym, _∙_}
+use borrow.Author.Needs.{needs}
+use Rattle.switch.proofs.shares.store.Statement.{statement}
+use Rattle.switch.proofs.shares.store.Tie as tie
+
+returns : tie.Need-returns
+returns c = rw (sym (c .before .before .is-quorum .ensures) ∙ c .before .if1 .taken, c .apply .ensures)
+
+returns-2 : tie.Need-returns-2
+returns-2 c = rw (sym (c .before .is-quorum .ensures) ∙ c .if1 .left)
+
+pub store-spec : {M : Type 1} → statement M
+store-spec =
+    tie.close
+    (tie.spec (λ c. search needs) (λ c. search needs) (λ c κs. search needs) (λ c κs. search needs) returns returns-2)

@@ -1,0 +1,50 @@
+// Events raised.
+ghost use mathlib.Core.Path.{_≡_};
+ghost use Rattle.switch.specs.Raising.{nextEvent, raisedBy};
+use crate::Raised;
+use crate::Reply;
+use crate::Stepped;
+use crate::Switch;
+use crate::states::switch_ok;
+
+const LAST_SERIAL: u32 = 4294967295;
+
+// Question 27; then the next serial, with this cause.
+fn next_event(r: Raised, cause: u8) -> Stepped
+    ensures { λ e. ⌜ e ≡ nextEvent r cause ⌝ }
+{
+    if r.serial == LAST_SERIAL {
+        return Stepped {
+            answer: answer::SERIALS_EXHAUSTED,
+            raised: r,
+        };
+    }
+    Stepped {
+        answer: answer::DONE,
+        raised: Raised {
+            serial: r.serial + 1,
+            cause: cause,
+        },
+    }
+}
+
+// Questions 20 and 27; then an event with this cause is the last raised one.
+pub fn raise(s: Switch, cause: u8) -> Reply
+    ensures { λ r. ⌜ r ≡ raisedBy s cause ⌝ }
+{
+    if !switch_ok(s) {
+        return Reply {
+            answer: answer::LIMITS_BROKEN,
+            state: s,
+        };
+    }
+    let event = s.raised;
+    let step = next_event(event, cause);
+    let raised = step.raised;
+    let mut next = s;
+    next.raised = raised;
+    Reply {
+        answer: step.answer,
+        state: next,
+    }
+}

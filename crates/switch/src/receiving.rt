@@ -1,0 +1,101 @@
+// Bytes received at a switch.
+ghost use mathlib.Core.Path.{_≡_};
+ghost use mathlib.Core.Bool.{true};
+ghost use Prim.Native.Nat.{_*_};
+ghost use lib.ListN.{length};
+ghost use Rattle.answer.specs.Ask.{firstNo};
+ghost use Rattle.message.specs.Keys.{keyLength};
+ghost use Rattle.message.specs.declared.Message.the-variants as kinds;
+ghost use Rattle.switch.specs.States.{switchOk};
+ghost use Rattle.switch.specs.Receiving.{senderQuestions, arrived, receivedBy};
+use crate::Reply;
+use crate::Switch;
+use crate::shares::take_share;
+use crate::states::state_question;
+use flow::Rule;
+use message::End;
+use message::Message;
+
+// Questions 12, 13 and 14, of the sender and the receiver that the bytes name.
+fn sender_question(s: Switch, keys: &[u8], bytes: &[u8], controller: u8, receiver: u8) -> u8
+    requires { ⌜ length (now keys) ≡ keyLength * s .n ⌝ }
+    ensures { λ r. ⌜ r ≡ firstNo (senderQuestions s (now (keys .entry)) (now (bytes .entry)) controller receiver) ⌝ }
+{
+    if s.n <= controller {
+        return answer::UNKNOWN_ID;
+    }
+    if receiver != s.id {
+        return answer::WRONG_RECEIVER;
+    }
+    let at = message::keys::LENGTH * (controller as usize);
+    if !message::is_sealed(&keys[at..at + message::keys::LENGTH], bytes) {
+        return answer::WRONG_TAG;
+    }
+    answer::DONE
+}
+
+// The fields of a share that was read from the bytes.
+fn receive_share(
+    s: Switch,
+    keys: &[u8],
+    bytes: &[u8],
+    controller: u8,
+    receiver: u8,
+    number: u32,
+    rule: Rule,
+) -> Reply
+    requires { ⌜ (switchOk s ≡ true) × (length (now keys) ≡ keyLength * s .n) ⌝ }
+    ensures { λ r. ⌜ r
+        ≡ arrived s (now (keys .entry)) (now (bytes .entry)) (kinds.Share controller receiver number rule) ⌝ }
+{
+    let k = sender_question(s, keys, bytes, controller, receiver);
+    if k != answer::DONE {
+        return Reply {
+            answer: k,
+            state: s,
+        };
+    }
+    take_share(s, controller, number, rule)
+}
+
+// Questions 20, 21 and 10 to 19; then the share is a repeat, held, or applied.
+pub fn receive(s: Switch, keys: &[u8], bytes: &[u8]) -> Reply
+    ensures { λ r. ⌜ r ≡ receivedBy s (now (keys .entry)) (now (bytes .entry)) ⌝ }
+{
+    let k = state_question(s, keys.len());
+    if k != answer::DONE {
+        return Reply {
+            answer: k,
+            state: s,
+        };
+    }
+    match message::read(End::Switch, bytes) {
+        Message::Share {
+            controller,
+            switch,
+            number,
+            rule,
+        } => receive_share(s, keys, bytes, controller, switch, number, rule),
+        Message::Refused(k) => Reply {
+            answer: k,
+            state: s,
+        },
+        Message::Event {
+            switch: _,
+            controller: _,
+            serial: _,
+            cause: _,
+        } => Reply {
+            answer: answer::WRONG_KIND,
+            state: s,
+        },
+        Message::Acknowledgement {
+            switch: _,
+            controller: _,
+            number: _,
+        } => Reply {
+            answer: answer::WRONG_KIND,
+            state: s,
+        },
+    }
+}

@@ -1,0 +1,115 @@
+// A share after the questions of its bytes: questions 15 to 19, then a repeat, held, or applied.
+ghost use mathlib.Core.Path.{_≡_};
+ghost use mathlib.Core.Bool.{true};
+ghost use Prim.Native.Nat.{_<_};
+ghost use Rattle.answer.specs.Ask.{firstNo};
+ghost use Rattle.flow.specs.Rules.{wellFormed};
+ghost use Rattle.flow.specs.Tables.{meaning, tableOk};
+ghost use Rattle.flow.specs.Changes.{roomFor};
+ghost use Rattle.switch.specs.States.{switchOk};
+ghost use Rattle.switch.specs.Shares.{keepsRule, shareQuestions, stored, applied, counted, takeShare};
+use crate::Reply;
+use crate::Slot;
+use crate::Switch;
+use crate::slots::does_hold;
+use crate::slots::emptied_slots;
+use crate::slots::is_quorum;
+use flow::Rule;
+
+// Whether a share with the number of its sender's slot has the rule that the slot holds.
+fn keeps_rule(slot: Slot, number: u32, rule: Rule) -> bool
+    ensures { λ r. ⌜ r ≡ keepsRule slot number rule ⌝ }
+{
+    if slot.number == number {
+        let held = slot.rule;
+        flow::same_rule(held, rule)
+    } else {
+        true
+    }
+}
+
+// Questions 15 to 19, of the state and the sender's slot: 0, or the number of the first whose answer is no.
+fn share_question(s: Switch, slot: Slot, number: u32, rule: Rule) -> u8
+    ensures { λ r. ⌜ r ≡ firstNo (shareQuestions s slot number rule) ⌝ }
+{
+    if !flow::well_formed(rule) {
+        return answer::MALFORMED_RULE;
+    }
+    if number <= s.last {
+        return answer::NOT_ABOVE_APPLIED;
+    }
+    if number < slot.number {
+        return answer::BELOW_SLOT;
+    }
+    if !keeps_rule(slot, number, rule) {
+        return answer::OTHER_RULE;
+    }
+    let table = s.table;
+    flow::room(table, rule)
+}
+
+// The state with a rule applied that its table has room for.
+fn apply(s: Switch, number: u32, rule: Rule) -> Switch
+    requires { ⌜ (tableOk (s .table) ≡ true) × (wellFormed rule ≡ true) × (roomFor rule (meaning (s .table)) ≡ true) ⌝ }
+    ensures { λ r. ⌜ r ≡ applied s number rule ⌝ }
+{
+    let table = s.table;
+    let slots = s.slots;
+    let change = flow::apply(table, rule);
+    let changed = change.table;
+    let rest = emptied_slots(slots, number);
+    let mut next = s;
+    next.last = number;
+    next.table = changed;
+    next.slots = rest;
+    next
+}
+
+// A share stored in its sender's slot and counted: applied at the quorum, else held.
+fn store(s: Switch, c: usize, number: u32, rule: Rule) -> Reply
+    requires { ⌜ (c < 16) × (tableOk (s .table) ≡ true)
+        × (wellFormed rule ≡ true) × (roomFor rule (meaning (s .table)) ≡ true) ⌝ }
+    ensures { λ r. ⌜ r ≡ counted (stored s c number rule) number rule ⌝ }
+{
+    let mut next = s;
+    next.slots[c] = Slot {
+        number: number,
+        rule: rule,
+    };
+    let slots = next.slots;
+    if is_quorum(s.n, slots, number, rule) {
+        let state = apply(next, number, rule);
+        Reply {
+            answer: answer::APPLIED,
+            state: state,
+        }
+    } else {
+        Reply {
+            answer: answer::DONE,
+            state: next,
+        }
+    }
+}
+
+// A share of a known controller, taken by a switch within its limits.
+pub(crate) fn take_share(s: Switch, controller: u8, number: u32, rule: Rule) -> Reply
+    requires { ⌜ (switchOk s ≡ true) × (controller < s .n) ⌝ }
+    ensures { λ r. ⌜ r ≡ takeShare s controller number rule ⌝ }
+{
+    let c = controller as usize;
+    let slot = s.slots[c];
+    let k = share_question(s, slot, number, rule);
+    if k != answer::DONE {
+        return Reply {
+            answer: k,
+            state: s,
+        };
+    }
+    if does_hold(slot, number, rule) {
+        return Reply {
+            answer: answer::REPEAT,
+            state: s,
+        };
+    }
+    store(s, c, number, rule)
+}

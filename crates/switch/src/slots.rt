@@ -1,0 +1,156 @@
+// Slots, the controllers that agree, and the quorum.
+ghost use mathlib.Core.Path.{_≡_};
+ghost use mathlib.Core.List.{map};
+ghost use Prim.Native.Nat.{_≤_};
+ghost use lib.ListN.{take, drop};
+ghost use Rattle.lists.specs.Arrays.{every};
+ghost use Rattle.switch.specs.Slots.{quorumOf, emptySlot, slotEmpty, slotOk, holds, agreeing, isQuorum, emptied};
+use crate::Slot;
+use crate::limits;
+use flow::Action;
+use flow::Rule;
+
+// How many of n controllers have to agree.
+pub fn quorum(n: u8) -> u32
+    ensures { λ r. ⌜ r ≡ quorumOf n ⌝ }
+{
+    if n == 0 {
+        return 1;
+    }
+    let q = (n - 1) / 3 + 1;
+    q as u32
+}
+
+pub(crate) fn empty_slot() -> Slot
+    ensures { λ r. ⌜ r ≡ emptySlot ⌝ }
+{
+    Slot {
+        number: 0,
+        rule: Rule {
+            prefix: 0,
+            length: 0,
+            action: Action::Remove,
+        },
+    }
+}
+
+fn slot_empty(slot: Slot) -> bool
+    ensures { λ r. ⌜ r ≡ slotEmpty slot ⌝ }
+{
+    if slot.number == 0 {
+        let rule = slot.rule;
+        flow::rule_empty(rule)
+    } else {
+        false
+    }
+}
+
+fn slot_ok(slot: Slot, last: u32) -> bool
+    ensures { λ r. ⌜ r ≡ slotOk last slot ⌝ }
+{
+    if last < slot.number {
+        true
+    } else {
+        slot_empty(slot)
+    }
+}
+
+// Whether the first n slots are empty, or hold numbers above the last applied one.
+pub(crate) fn slots_ok(slots: [Slot; limits::CONTROLLERS], n: usize, last: u32) -> bool
+    requires { ⌜ n ≤ 16 ⌝ }
+    ensures { λ r. ⌜ r ≡ every (slotOk last) (take n slots) ⌝ }
+{
+    let mut i: usize = 0;
+    while i < n {
+        let slot = slots[i];
+        if slot_ok(slot, last) {
+            i += 1;
+        } else {
+            return false;
+        }
+    }
+    true
+}
+
+// Whether the slots from n on are empty.
+pub(crate) fn empty_from(slots: [Slot; limits::CONTROLLERS], n: usize) -> bool
+    requires { ⌜ n ≤ 16 ⌝ }
+    ensures { λ r. ⌜ r ≡ every slotEmpty (drop n slots) ⌝ }
+{
+    let mut i = n;
+    while i < limits::CONTROLLERS {
+        let slot = slots[i];
+        if slot_empty(slot) {
+            i += 1;
+        } else {
+            return false;
+        }
+    }
+    true
+}
+
+pub(crate) fn does_hold(slot: Slot, number: u32, rule: Rule) -> bool
+    ensures { λ r. ⌜ r ≡ holds number rule slot ⌝ }
+{
+    if slot.number == number {
+        let held = slot.rule;
+        flow::same_rule(held, rule)
+    } else {
+        false
+    }
+}
+
+// The controllers whose slots hold this number and rule, controller c at bit c: from the last to the first.
+fn agreeing_set(slots: [Slot; limits::CONTROLLERS], number: u32, rule: Rule) -> u16
+    ensures { λ r. ⌜ r ≡ agreeing number rule slots ⌝ }
+{
+    let mut bits: u16 = 0;
+    let mut i = limits::CONTROLLERS;
+    while 0 < i {
+        i -= 1;
+        let slot = slots[i];
+        if does_hold(slot, number, rule) {
+            bits = bits * 2 + 1;
+        } else {
+            bits = bits * 2;
+        }
+    }
+    bits
+}
+
+// Whether as many controllers agree as n controllers need.
+pub(crate) fn is_quorum(n: u8, slots: [Slot; limits::CONTROLLERS], number: u32, rule: Rule) -> bool
+    ensures { λ r. ⌜ r ≡ isQuorum n number rule slots ⌝ }
+{
+    let bits = agreeing_set(slots, number, rule);
+    let needed = quorum(n);
+    needed <= u16::count_ones(bits)
+}
+
+fn emptied_slot(slot: Slot, number: u32) -> Slot
+    ensures { λ r. ⌜ r ≡ emptied number slot ⌝ }
+{
+    if slot.number <= number {
+        empty_slot()
+    } else {
+        slot
+    }
+}
+
+// The slots, those with this number or a lower one emptied.
+pub(crate) fn emptied_slots(
+    slots: [Slot; limits::CONTROLLERS],
+    number: u32,
+) -> [Slot; limits::CONTROLLERS]
+    ensures { λ r. ⌜ r ≡ map (emptied number) slots ⌝ }
+{
+    let mut out = slots;
+    let mut i: usize = 0;
+    while i < limits::CONTROLLERS {
+        let slot = slots[i];
+        let next = emptied_slot(slot, number);
+        out[i] = next;
+        i += 1;
+    }
+    out
+}
