@@ -2,7 +2,11 @@
 ghost use mathlib.Core.Path.{_≡_};
 ghost use mathlib.Core.List.{[], _∷_};
 ghost use Prim.Native.Nat.{_+_};
+ghost use lib.Dec.{eqb};
+ghost use Rattle.answer.specs.Ask.{pick};
 ghost use Rattle.lists.specs.Bytes.{num, byteAt};
+ghost use Rattle.flow.specs.declared.Action.the-variants.{Remove, Set};
+use flow::Action;
 use flow::Rule;
 use libc::STDOUT_FILENO;
 
@@ -79,4 +83,15 @@ pub fn u32_at(s: &[u8], place: u8) -> u32
         byte_at(s, i + 2),
         byte_at(s, i + 3),
     )
+}
+
+// The action of a byte (0 removes, others set) and a port, so that a case can set port 0 too.
+pub fn action_of(kind: u8, port: u16) -> Action
+    ensures { λ r. ⌜ r ≡ pick (eqb kind 0) Remove (Set port) ⌝ }
+{
+    if kind == 0 {
+        Action::Remove
+    } else {
+        Action::Set(port)
+    }
 }

@@ -133,12 +133,12 @@ share-number bytes e = let h = gives ends.Switch bytes e .2 in cc
 module _ (keys : List ℕ) (s : Switch) where
   -- what a call adds to the numbers made: nothing where it is not answered 1, nor where it brings no number
   abbrev numberMade : Call → List ℕ
-  numberMade x = pick (eqb (replyTo keys s x .answer) 1) (numberIn keys x) []
+  numberMade x = pick (eqb (replyTo keys s x .answer) 1) (numberIn x) []
 
   none-answered : (x : Call) → (replyTo keys s x .answer ≡ 1 → ⊥) → numberMade x ≡ []
   none-answered x other = rw (ne-eqb _ _ other)
 
-  none-brought : (x : Call) → numberIn keys x ≡ [] → numberMade x ≡ []
+  none-brought : (x : Call) → numberIn x ≡ [] → numberMade x ≡ []
   none-brought x none = by-bool (eqb (replyTo keys s x .answer) 1) (λ e. rw e none) (λ e. rw e)
 
   -- the event as it is, an event raised, and a message written

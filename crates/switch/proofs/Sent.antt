@@ -19,7 +19,8 @@ use Rattle.message.specs.declared.Message.{Message}
 use Rattle.message.proofs.Written.{all-written, written as bytes-written, read-written, sealed-written}
 use Rattle.message.proofs.Written.{written-length, written-before, written-after}
 use Rattle.switch.specs.States.{unchanged, switchOk}
-use Rattle.switch.specs.Writing.{eventFor, acknowledgementFor, written, eventWritten, acknowledgementWritten}
+use Rattle.switch.specs.Writing.{eventFor, acknowledgementFor, writeQuestions, written}
+use Rattle.switch.specs.Writing.{eventWritten, acknowledgementWritten}
 use Rattle.switch.specs.declared.Switch.{Switch}
 
 -- what the questions of a writing say where every answer is yes
@@ -42,13 +43,7 @@ pub record Sent (key : List ℕ) (m : Message) (frame : List ℕ) (at : ℕ) (af
 
 module _ (s : Switch) (keys : List ℕ) (c : ℕ) (m : Message) (there : Bool) (frame : List ℕ) (at : ℕ) where
   abbrev questions : List Question
-  questions =
-      (20, switchOk s)
-      ∷ (21, eqb (length keys) (keyLength * s .n))
-      ∷ (12, ltb c (s .n))
-      ∷ (25, roomAt (length frame) at (lengthOf m))
-      ∷ (26, there)
-      ∷ []
+  questions = writeQuestions s keys c m there frame at
 
   -- every answer is yes, or it is a refusal
   by-writing : {C : Type 0}

@@ -18,6 +18,13 @@ pub data Call : Type 0 where
   writesEvent : ℕ → List ℕ → ℕ → Call
   writesAcknowledgement : ℕ → List ℕ → ℕ → Call
 
+-- the number in the bytes of a share that a call brings
+abbrev pub numberIn : Call → List ℕ
+numberIn (receives bytes) = field bytes numberAt 4 ∷ []
+numberIn (raises cause) = []
+numberIn (writesEvent c frame at) = []
+numberIn (writesAcknowledgement c frame at) = []
+
 module _ (keys : List ℕ) where
   -- what a call replies
   abbrev pub replyTo : Switch → Call → Reply
@@ -31,15 +38,7 @@ module _ (keys : List ℕ) where
   after s [] = s
   after s (x ∷ xs) = after (replyTo s x .state) xs
 
-  -- the number that a call brings, if it brings a share
-  abbrev pub numberIn : Call → List ℕ
-  numberIn (receives bytes) = field bytes numberAt 4 ∷ []
-  numberIn (raises cause) = []
-  numberIn (writesEvent c frame at) = []
-  numberIn (writesAcknowledgement c frame at) = []
-
   -- the numbers of the shares answered 1, in order of answer
   unfoldable pub made : Switch → List Call → List ℕ
   made s [] = []
-  made s (x ∷ xs) =
-      pick (eqb (replyTo s x .answer) 1) (numberIn x) [] ++ made (replyTo s x .state) xs
+  made s (x ∷ xs) = pick (eqb (replyTo s x .answer) 1) (numberIn x) [] ++ made (replyTo s x .state) xs

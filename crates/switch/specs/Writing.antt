@@ -5,7 +5,7 @@ use mathlib.Core.Bool.{Bool, true}
 use mathlib.Core.List.{List, [], _∷_}
 use lib.ListN.{length}
 use lib.Dec.{ltb, eqb}
-use Rattle.answer.specs.Ask.{reply}
+use Rattle.answer.specs.Ask.{Question, reply}
 use Rattle.message.specs.Keys.{keyLength, keyAt}
 use Rattle.message.specs.Writing.{encode, lengthOf, roomAt, placed}
 use Rattle.message.specs.declared.Message.{Message}
@@ -21,17 +21,20 @@ eventFor s c = Event (s .id) c (s .raised .serial) (s .raised .cause)
 abbrev pub acknowledgementFor : Switch → ℕ → Message
 acknowledgementFor s c = Acknowledgement (s .id) c (s .last)
 
--- a message written for a controller, where there is one to send; the reply, and the frame afterwards
-unfoldable pub written : Switch → List ℕ → ℕ → Message → Bool → List ℕ → ℕ → Reply × List ℕ
-written s keys c m there frame at =
-    reply
-    ((20, switchOk s)
+-- the questions of a message for a controller, and whether there is one to send
+abbrev pub writeQuestions : Switch → List ℕ → ℕ → Message → Bool → List ℕ → ℕ → List Question
+writeQuestions s keys c m there frame at =
+    (20, switchOk s)
     ∷ (21, eqb (length keys) (keyLength * s .n))
     ∷ (12, ltb c (s .n))
     ∷ (25, roomAt (length frame) at (lengthOf m))
     ∷ (26, there)
-    ∷ [])
-    (λ k. (unchanged s k, frame))
+    ∷ []
+
+-- a message written for a controller: the reply, and the frame afterwards
+unfoldable pub written : Switch → List ℕ → ℕ → Message → Bool → List ℕ → ℕ → Reply × List ℕ
+written s keys c m there frame at =
+    reply (writeQuestions s keys c m there frame at) (λ k. (unchanged s k, frame))
     (unchanged s 0, placed (encode (keyAt keys c) m) frame at)
 
 -- an event once one was raised; an acknowledgement always

@@ -1,5 +1,6 @@
 // Runs the cases of standard input through message and playbook, and prints a line for each. A case is a letter, two
 // bytes of length and that many bytes. tests/trials.py makes the cases, and works out the lines from document 01 alone.
+use cases::action_of;
 use cases::byte_at;
 use cases::say;
 use cases::say_byte;
@@ -75,15 +76,6 @@ fn receive(end: End, s: &[u8]) {
         say(b" sealed\n");
     } else {
         say(b" not sealed\n");
-    }
-}
-
-// The action of a byte (0 removes, others set) and a port, so that a set of port 0 can be asked for too.
-fn action_of(kind: u8, port: u16) -> Action {
-    if kind == 0 {
-        Action::Remove
-    } else {
-        Action::Set(port)
     }
 }
 

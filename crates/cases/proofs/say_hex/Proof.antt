@@ -1,4 +1,4 @@
--- Every byte is printed, from the front.
+-- Every byte is printed, from the front. Assumes nothing.
 use Prim.Native.Nat.{_≤_, _-_}
 use lib.ListN.{length}
 use borrow.Author.Needs.{needs}

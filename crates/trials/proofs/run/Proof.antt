@@ -1,4 +1,4 @@
--- Every turn takes three bytes or more off the rest; t5 is the line of a case that is cut off.
+-- Every turn takes three bytes or more off the rest; t5 is the line of a case that is cut off. Assumes nothing.
 use mathlib.Core.Path.{_≡_}
 use lib.ListN.{length}
 use borrow.Author.Needs.{needs}

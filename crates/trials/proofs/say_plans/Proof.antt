@@ -1,4 +1,4 @@
--- Each of the 64 places is looked at once.
+-- Each of the 64 places is looked at once. Assumes nothing.
 use Prim.Native.Nat.{_≤_, _-_}
 use borrow.Author.Needs.{needs}
 use Rattle.trials.proofs.say_plans.Statement.{statement}

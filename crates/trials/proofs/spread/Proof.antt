@@ -1,4 +1,4 @@
--- A byte counts the turns, so that every place is below 512 and every prefix fits.
+-- A byte counts the turns, so that every place is below 512 and every prefix fits. Assumes nothing.
 use Prim.Native.Nat.{_≤_, _-_}
 use borrow.Author.Needs.{needs}
 use Rattle.trials.proofs.spread.Statement.{statement}

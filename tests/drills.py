@@ -1,0 +1,599 @@
+"""Calls at one switch for the program drills, and what it must print, worked out from document 01 with Python's own
+library.
+
+    python3 tests/drills.py stdin          the calls
+    python3 tests/drills.py stdout         the lines
+    python3 tests/drills.py stdin long     many more calls, for the compiled program
+    python3 tests/drills.py stdout long    their lines
+
+Nothing here is taken from the crates. Names and numbers are document 01's.
+"""
+import hashlib
+import hmac
+import random
+import struct
+import sys
+
+LARGEST = 4294967295
+
+
+def well_formed(prefix, length):
+    return length <= 32 and prefix % (1 << (32 - length)) == 0
+
+
+def quorum(n):
+    return (n - 1) // 3 + 1
+
+
+def key(controller, switch):
+    return bytes([controller, switch]) + bytes(30)
+
+
+def tag(secret, body):
+    return hmac.new(secret, body, hashlib.sha256).digest()[:16]
+
+
+def share(controller, switch, number, rule, secret=None):
+    prefix, length, port = rule
+    body = struct.pack(">BBBIIBH", 2, controller, switch, number, prefix, length, port)
+    return body + tag(secret or key(controller % 256, switch % 256), body)
+
+
+class Switch:
+    """Entries are (prefix, length, port); slots are None or (number, (prefix, length, port)), port 0 removing. What only
+    a damaged state can have stands in `odd`: places past the count, a number in an empty slot, a set of port 0."""
+
+    def __init__(self, id=0, n=0):
+        self.id, self.n, self.last, self.serial, self.cause = id, n, 0, 0, 0
+        self.entries = []
+        self.slots = [None] * 16
+        self.count = None
+        self.odd_entries = {}
+        self.odd_slots = {}
+
+    def good(self):
+        """Question 20."""
+        if not (0 <= self.id <= 15 and 1 <= self.n <= 16):
+            return False
+        if self.odd_entries or self.odd_slots:
+            return False
+        if self.count is not None and self.count != len(self.entries):
+            return False
+        if len(self.entries) > 64:
+            return False
+        keys = [e[:2] for e in self.entries]
+        if keys != sorted(set(keys)):
+            return False
+        if not all(well_formed(p, l) and port > 0 for p, l, port in self.entries):
+            return False
+        if any(self.slots[self.n:]):
+            return False
+        return all(slot[0] > self.last for slot in self.slots if slot)
+
+    def show(self):
+        places = dict(enumerate(self.entries))
+        places.update(self.odd_entries)
+        count = len(self.entries) if self.count is None else self.count
+        text = " state %d %d %d %d %d count %d" % (self.id, self.n, self.last, self.serial, self.cause, count)
+        for i in sorted(places):
+            text += " entry %d %d %d %d" % ((i,) + tuple(places[i]))
+        for i in range(16):
+            if i in self.odd_slots:
+                text += " slot %d %s" % (i, self.odd_slots[i])
+            elif self.slots[i]:
+                number, (prefix, length, port) = self.slots[i]
+                text += " slot %d %d %d %d %s" % (i, number, prefix, length, "set %d" % port if port else "remove")
+        return text
+
+    def receive(self, keys, s):
+        if not self.good():
+            return 20
+        if len(keys) != 32 * self.n:
+            return 21
+        if len(s) != 30:
+            return 10
+        if s[0] != 2:
+            return 11
+        controller, switch, number, prefix, length, port = struct.unpack(">BBIIBH", s[1:14])
+        if controller >= self.n:
+            return 12
+        if switch != self.id:
+            return 13
+        if s[14:] != tag(keys[32 * controller:32 * controller + 32], s[:14]):
+            return 14
+        if not well_formed(prefix, length):
+            return 15
+        if number <= self.last:
+            return 16
+        rule, slot = (prefix, length, port), self.slots[controller]
+        if slot and number < slot[0]:
+            return 17
+        if slot and number == slot[0] and rule != slot[1]:
+            return 18
+        present = any(e[:2] == rule[:2] for e in self.entries)
+        if port != 0 and not present and len(self.entries) >= 64:
+            return 19
+        if slot == (number, rule):
+            return 2
+        self.slots[controller] = (number, rule)
+        if len([c for c in range(self.n) if self.slots[c] == (number, rule)]) < quorum(self.n):
+            return 0
+        self.entries = [e for e in self.entries if e[:2] != rule[:2]]
+        if port != 0:
+            self.entries = sorted(self.entries + [rule])
+        self.last = number
+        self.slots = [slot if slot and slot[0] > number else None for slot in self.slots]
+        return 1
+
+    def raise_event(self, cause):
+        if not self.good():
+            return 20
+        if self.serial >= LARGEST:
+            return 27
+        self.serial, self.cause = self.serial + 1, cause
+        return 0
+
+    def write(self, keys, event, length, controller, offset):
+        frame = bytearray([0xEE]) * 48
+        if event:
+            body = struct.pack(">BBBIB", 1, self.id, controller, self.serial, self.cause)
+        else:
+            body = struct.pack(">BBBI", 3, self.id, controller, self.last)
+        if not self.good():
+            return 20, frame
+        if len(keys) != 32 * self.n:
+            return 21, frame
+        if controller >= self.n:
+            return 12, frame
+        if offset + len(body) + 16 > length:
+            return 25, frame
+        if event and self.serial == 0:
+            return 26, frame
+        whole = body + tag(keys[32 * controller:32 * controller + 32], body)
+        frame[offset:offset + len(whole)] = whole
+        return 0, frame
+
+    def look_up(self, address):
+        if not self.good():
+            return "refused 20"
+        found = [(l, port) for p, l, port in self.entries if address >> (32 - l) == p >> (32 - l)]
+        return "port %d" % max(found)[1] if found else "nothing"
+
+
+class Drill:
+    """The calls so far, as bytes, and the lines they must print."""
+
+    def __init__(self, long):
+        self.long = long
+        self.cases, self.lines = b"", []
+        self.switch, self.keys = Switch(), b""
+
+    def some(self, few, many):
+        """What every run has, and what only the long one has."""
+        return tuple(few) + (tuple(many) if self.long else ())
+
+    def case(self, letter, body):
+        self.cases += letter + struct.pack(">H", len(body)) + body
+
+    def replied(self, word, answer, more=""):
+        self.lines.append("%s %d%s%s" % (word, answer, self.switch.show(), more))
+        return answer
+
+    def setup(self, id, n):
+        self.case(b"S", bytes([id, n]))
+        good = id <= 15 and 1 <= n <= 16
+        self.switch = Switch(id, n) if good else Switch()
+        self.replied("setup", 0 if good else 20)
+
+    def store(self, id, length):
+        self.case(b"K", struct.pack(">BH", id, length))
+        self.keys = b"".join(key(c, id) for c in range(17))[:length]
+
+    def start(self, id, n):
+        self.setup(id, n)
+        self.store(id, 32 * n)
+
+    def receive(self, s):
+        self.case(b"M", s)
+        return self.replied("received", self.switch.receive(self.keys, s))
+
+    def share(self, controller, number, rule):
+        return self.receive(share(controller, self.switch.id, number, rule))
+
+    def raise_event(self, cause):
+        self.case(b"R", bytes([cause]))
+        return self.replied("raised", self.switch.raise_event(cause))
+
+    def write(self, event, length, controller, offset):
+        self.case(b"E" if event else b"A", struct.pack(">BBQ", length, controller, offset))
+        answer, frame = self.switch.write(self.keys, event, length, controller, offset)
+        return self.replied("written", answer, " frame " + frame.hex())
+
+    def look_up(self, address):
+        self.case(b"L", struct.pack(">I", address))
+        self.lines.append("looked up " + self.switch.look_up(address))
+
+    def quorum(self, n):
+        self.case(b"Q", bytes([n]))
+        self.lines.append("quorum %d" % quorum(n))
+
+    # What a state is made to be, without a call.
+
+    def set_id(self, id):
+        self.case(b"X", bytes([0, id]))
+        self.switch.id = id
+
+    def set_n(self, n):
+        self.case(b"X", bytes([1, n]))
+        self.switch.n = n
+
+    def set_last(self, last):
+        self.case(b"X", struct.pack(">BI", 2, last))
+        self.switch.last = last
+
+    def set_raised(self, serial, cause):
+        self.case(b"X", struct.pack(">BIB", 3, serial, cause))
+        self.switch.serial, self.switch.cause = serial, cause
+
+    def poke_slot(self, i, number, prefix, length, kind, port):
+        self.case(b"X", struct.pack(">BBIIBBH", 4, i, number, prefix, length, kind, port))
+
+    def set_slot(self, i, number, rule):
+        self.poke_slot(i, number, rule[0], rule[1], 1 if rule[2] else 0, rule[2])
+        self.switch.slots[i] = (number, rule)
+
+    def empty_slot(self, i):
+        self.poke_slot(i, 0, 0, 0, 0, 0)
+        self.switch.slots[i] = None
+
+    def poke_entry(self, i, entry):
+        self.case(b"X", struct.pack(">BBIBH", 5, i, *entry))
+
+    def poke_count(self, count):
+        self.case(b"X", bytes([6, count]))
+
+    def set_entries(self, entries):
+        for i, e in enumerate(entries):
+            self.poke_entry(i, e)
+        for i in range(len(entries), len(self.switch.entries)):
+            self.poke_entry(i, (0, 0, 0))
+        self.poke_count(len(entries))
+        self.switch.entries = list(entries)
+
+
+A, B, C = (0x0A000000, 8, 3), (0x0A010000, 16, 4), (0xC0A80000, 16, 7)
+WITHDRAWAL = (0x0A000000, 8, 0)
+
+
+def full(n):
+    """n entries for a table, each with a prefix and port of its own."""
+    return [(i << 24, 8, 100 + i) for i in range(1, n + 1)]
+
+
+def every_call(d):
+    """One call of each kind, and those that would be good but for the state or the key store."""
+    d.share(0, 50, A)
+    d.raise_event(1)
+    d.write(True, 48, 0, 0)
+    d.write(False, 48, 0, 0)
+    d.look_up(0x0A000001)
+
+
+def setups(d):
+    for n in range(1, 17):
+        d.quorum(n)
+    for id, n in ((0, 1), (15, 16), (5, 4), (16, 4), (5, 0), (5, 17), (255, 255), (0, 0)):
+        d.setup(id, n)
+    d.store(0, 0)
+    every_call(d)
+
+
+def questions(d):
+    """Each question of a share, asked by a message that fails it and passes all before it."""
+    d.start(5, 4)
+    for length in d.some((0, 24, 29, 31), (1, 23, 46, 300)):
+        d.receive((share(0, 5, 1, A) + bytes(300))[:length])
+    for kind in d.some((1, 3), (0, 4, 0x12, 0x82)):
+        body = bytes([kind]) + share(0, 5, 1, A)[1:14]
+        d.receive(body + tag(key(0, 5), body))
+    for controller in d.some((4, 255), (15, 16)):
+        d.receive(share(controller, 5, 1, A, key(controller % 17, 5)))
+    for switch in d.some((4, 16), (0, 6, 15, 255)):
+        d.receive(share(0, switch, 1, A, key(0, 5)))
+    good = share(0, 5, 1, A)
+    for i in d.some((3, 29), range(4, 29)):
+        d.receive(good[:i] + bytes([good[i] ^ 1 << i % 8]) + good[i + 1:])
+    d.receive(share(0, 5, 1, A, key(1, 5)))
+    for s in d.some((), (share(0, 5, 1, A, key(0, 6)), good[:14] + bytes(16))):
+        d.receive(s)
+    for rule in d.some(((0x0A000001, 8, 3), (0x0A000000, 33, 3)), ((1, 0, 3), (0x0A000000, 255, 0), (0x80000000, 0, 0))):
+        for number in d.some((0,), (1,)):
+            d.receive(share(0, 5, number, rule))
+    d.share(0, 0, A)
+    d.share(0, 3, A)
+    d.share(1, 3, A)
+    for number in d.some((3,), (0, 1, 2)):
+        d.share(2, number, B)
+    d.share(0, 9, B)
+    for number in d.some((8,), (4,)):
+        d.share(0, number, B)
+    for rule in ((0x0A020000, 16, 4), (0x0A010000, 17, 4), (0x0A010000, 16, 5), (0x0A010000, 16, 0)):
+        d.share(0, 9, rule)
+    d.share(0, 9, B)
+    # 17 and 18 are of the sender's own slot, 19 of every share
+    d.share(1, 4, C)
+    d.share(1, 9, C)
+    d.set_entries(full(64))
+    d.share(0, 9, B)
+    d.share(0, 9, (0x0A010000, 16, 0))
+    if d.long:
+        d.share(2, 10, (0xF0000000, 8, 1))
+        d.share(0, 8, B)
+        d.share(0, 9, (0x0A010000, 16, 5))
+
+
+def tables(d):
+    """The 64th entry is placed, a 65th new one gets 19, an old one is set anew, an absent one is removed."""
+    d.start(3, 1)
+    d.set_entries(full(63))
+    d.share(0, 1, (0x7F000000, 9, 5))
+    d.share(0, 2, (0x7F800000, 9, 6))
+    d.share(0, 2, (0x7F000000, 9, 7))
+    d.share(0, 3, (0x01000000, 8, 8))
+    d.share(0, 4, (0x7F800000, 9, 0))
+    if d.long:
+        d.share(0, 5, (0x01000000, 8, 0))
+        d.share(0, 6, (0x7F800000, 9, 6))
+        d.share(0, LARGEST, (0x7F800000, 9, 0))
+        d.share(0, LARGEST, (0x7F800000, 9, 0))
+    # a share held while there was room, and repeated when there is none
+    d.start(3, 4)
+    d.set_entries(full(63))
+    d.share(0, 9, (0xE0000000, 8, 1))
+    d.share(0, 9, (0xE0000000, 8, 1))
+    d.share(1, 8, (0xE1000000, 8, 2))
+    d.share(2, 8, (0xE1000000, 8, 2))
+    d.share(0, 9, (0xE0000000, 8, 1))
+    for address in (0xE0000000, 0xE1000000, 0x01FFFFFF, 0x00FFFFFF, 0xFFFFFFFF):
+        d.look_up(address)
+    if d.long:
+        d.share(1, 9, (0xE0000000, 8, 1))
+        d.share(1, 9, (0xE1000000, 8, 0))
+        d.share(3, 9, (0xE1000000, 8, 0))
+        d.share(0, 9, (0xE0000000, 8, 1))
+        d.share(0, 10, (0xE0000000, 8, 1))
+
+
+def lookups(d):
+    """The longest of the entries that cover an address."""
+    d.start(3, 1)
+    d.set_entries([(0, 0, 1), A, B, (0x0A010200, 24, 5), (0x0A010203, 32, 6)])
+    for address in (0, 0x0A000000, 0x0A010000, 0x0A010200, 0x0A010203, 0x0A010204, 0xFFFFFFFF):
+        d.look_up(address)
+
+
+def agreement(d):
+    """Different controllers are counted; slots with this number or a lower one are emptied; higher ones stay."""
+    d.start(0, 16)
+    for c in range(4):
+        d.set_slot(c, 7, A)
+    d.share(4, 7, A)
+    d.share(0, 7, A)
+    for c, number, rule in ((6, 6, B), (7, 8, C), (8, 7, B)):
+        d.set_slot(c, number, rule)
+    d.share(15, 7, A)
+    d.share(5, 7, A)
+    for c in d.some((), (7, 9, 10, 11, 12, 13)):
+        d.share(c, 8, C)
+    # a controller that goes on to a higher number no longer agrees with its lower one
+    d.start(0, 4)
+    d.set_slot(0, 1, A)
+    d.share(0, 2, B)
+    d.share(1, 1, A)
+    d.share(2, 1, A)
+    d.share(3, 2, B)
+    # the same number with two rules: neither has two controllers until one of them does
+    d.start(0, 4)
+    for c, rule in enumerate((A, B, C)):
+        d.set_slot(c, 1, rule)
+    d.share(1, 1, A)
+    d.share(3, 1, B)
+    # numbers may be skipped, and one below the last applied is late
+    d.start(0, 3)
+    d.share(2, 100, A)
+    d.share(1, 99, B)
+    d.share(1, 101, B)
+    # a quorum that lies in the slots already: a repeat is a repeat, a new share counts
+    d.start(0, 4)
+    for c in range(3):
+        d.set_slot(c, 5, A)
+    d.share(0, 5, A)
+    d.share(3, 5, A)
+
+
+def evenings(d):
+    """The second evening: one withdrawal of one controller, under two numbers. Then the first: one controller silent."""
+    for numbers, controllers in d.some((((7, 8), (2, 2)),), (((7, 7), (2, 2)), ((7, 8), (2, 3)), ((7, 7), (2, 3)))):
+        d.start(5, 4)
+        d.set_entries([A])
+        d.set_last(6)
+        d.look_up(0x0A000001)
+        for number, c in zip(numbers, controllers):
+            d.share(c, number, WITHDRAWAL)
+        d.look_up(0x0A000001)
+        d.write(False, 48, 0, 0)
+    if d.long:
+        d.start(5, 4)
+        for c in (0, 1, 3):
+            d.share(c, 1, A)
+        for c in (3, 1, 0):
+            d.share(c, 2, B)
+        d.write(False, 48, 1, 0)
+
+
+def limits(d):
+    """20 for each clause, from a state that is good but for it; and then from the good one again."""
+
+    def broken(damage, mend):
+        damage()
+        if d.long:
+            every_call(d)
+        d.receive(b"")
+        mend()
+
+    def odd_slot(i, number, prefix, length, kind, port):
+        def damage():
+            d.poke_slot(i, number, prefix, length, kind, port)
+            d.switch.odd_slots[i] = "%d %d %d %s" % (number, prefix, length, "set %d" % port if kind else "remove")
+
+        def mend():
+            slot = d.switch.slots[i]
+            if slot:
+                d.poke_slot(i, slot[0], slot[1][0], slot[1][1], 1 if slot[1][2] else 0, slot[1][2])
+            else:
+                d.poke_slot(i, 0, 0, 0, 0, 0)
+            del d.switch.odd_slots[i]
+
+        return damage, mend
+
+    def odd_entry(i, entry):
+        def damage():
+            d.poke_entry(i, entry)
+            d.switch.odd_entries[i] = entry
+
+        def mend():
+            d.poke_entry(i, d.switch.entries[i] if i < len(d.switch.entries) else (0, 0, 0))
+            del d.switch.odd_entries[i]
+
+        return damage, mend
+
+    def odd_count(count):
+        def damage():
+            d.poke_count(count)
+            d.switch.count = count
+
+        def mend():
+            d.poke_count(len(d.switch.entries))
+            d.switch.count = None
+
+        return damage, mend
+
+    d.start(5, 4)
+    d.set_entries([A, B, C])
+    d.set_last(9)
+    d.set_slot(1, 10, B)
+    d.set_slot(3, 12, (0x0A000001, 8, 3))
+    broken(lambda: d.set_id(16), lambda: d.set_id(5))
+    broken(lambda: d.set_id(255), lambda: d.set_id(5))
+    broken(lambda: d.set_n(0), lambda: d.set_n(4))
+    broken(lambda: d.set_n(17), lambda: d.set_n(4))
+    # slots n and above empty
+    broken(lambda: d.set_n(3), lambda: d.set_n(4))
+    broken(lambda: d.set_slot(4, 11, B), lambda: d.empty_slot(4))
+    broken(lambda: d.set_slot(15, 11, B), lambda: d.empty_slot(15))
+    # held numbers above the last applied
+    broken(lambda: d.set_last(10), lambda: d.set_last(9))
+    broken(lambda: d.set_last(LARGEST), lambda: d.set_last(9))
+    # an empty slot is all zero
+    for odd in ((2, 0, 0, 0, 1, 5), (2, 0, 0, 0, 1, 0), (2, 0, 0, 1, 0, 0), (2, 0, 1, 0, 0, 0), (9, 0, 0, 1, 0, 0)):
+        broken(*odd_slot(*odd))
+    # the table: order, each prefix and length once, well formed, ports above 0, at most 64, zero past the count
+    for i, entry in ((1, A), (1, (0x0A000000, 7, 1)), (1, (0x09000000, 8, 1)), (2, (0x0A010000, 15, 1)),
+                     (0, (0x0A000001, 8, 3)), (0, (0x0A000000, 33, 3)), (2, (0xC0A80000, 16, 0)),
+                     (3, (0, 0, 1)), (63, (0, 1, 0)), (40, (1, 0, 0))):
+        broken(*odd_entry(i, entry))
+    for count in (2, 4, 64, 65, 255):
+        broken(*odd_count(count))
+    # what is not asked: a slot's rule, a cause beside serial 0
+    d.set_raised(0, 200)
+    every_call(d)
+
+
+def stores(d):
+    """21, after 20 and before all others."""
+    d.start(2, 4)
+    for length in d.some((0, 127, 129, 160), (1, 32, 96, 512, 544)):
+        d.store(2, length)
+        d.share(0, 1, A)
+        d.receive(b"")
+        d.write(True, 0, 9, 0)
+        d.write(False, 48, 0, 0)
+        d.write(False, 0, 9, 2 ** 64 - 1)
+    d.raise_event(3)
+    d.look_up(0)
+    d.store(2, 128)
+    d.share(0, 1, A)
+
+
+def writing(d):
+    """12, 25, 26; frames too short, offsets past the end and at the largest number; the serial at its largest."""
+    d.start(7, 4)
+    for controller in d.some((3, 4), (0, 255)):
+        for event, length, offset in ((True, 48, 0), (True, 23, 0), (False, 48, 0), (False, 22, 0)):
+            d.write(event, length, controller, offset)
+    d.raise_event(0)
+    d.raise_event(255)
+    for event, size in ((True, 24), (False, 23)):
+        for length in d.some((0, size - 1, size), (1, size + 1, 48)):
+            for offset in d.some((0, 1, 2 ** 64 - size, 2 ** 64 - 1), (length, length + 1, 2 ** 32)):
+                d.write(event, length, 2, offset)
+        for offset in d.some((48 - size, 49 - size), (47 - size,)):
+            d.write(event, 48, 3, offset)
+    d.set_raised(LARGEST - 1, 9)
+    d.write(True, 48, 1, 3)
+    for cause in (10, 11):
+        d.raise_event(cause)
+        d.write(True, 48, 1, 3)
+    d.set_last(LARGEST - 1)
+    d.share(0, LARGEST, A)
+    d.share(1, LARGEST, A)
+    d.share(2, LARGEST, A)
+    d.write(False, 48, 1, 3)
+
+
+def at_random(d, seed, calls):
+    """Calls of every kind, most of them shares that could pass, on few numbers and rules."""
+    r = random.Random(seed)
+    id, n = r.randrange(16), r.randrange(1, 17)
+    d.start(id, n)
+    number = 1
+    for _ in range(calls):
+        what = r.randrange(20)
+        if what == 0:
+            d.raise_event(r.randrange(256))
+        elif what == 1:
+            d.write(r.randrange(2) == 0, r.randrange(20, 49), r.randrange(n + 1), r.randrange(26))
+        elif what == 2:
+            d.look_up(r.choice((0x0A000000, 0x0A010000, 0x0A010001, 0xC0A80001)))
+        elif what == 3:
+            s = bytearray(share(r.randrange(n), id, number, A))
+            s[r.randrange(30)] ^= 1 << r.randrange(8)
+            d.receive(bytes(s))
+        else:
+            rule = r.choice((A, A, A, B, (B[0], B[1], 0), (0x0A000000, 8, 9)))
+            if d.share(r.randrange(n), max(number + r.choice((-1, 0, 0, 0, 0, 1)), 0), rule) == 1:
+                number += 1
+
+
+def drill(long):
+    d = Drill(long)
+    for scene in (setups, questions, tables, lookups, agreement, evenings, limits, stores, writing):
+        scene(d)
+    for seed in d.some((), range(10)):
+        at_random(d, seed, 80)
+    d.case(b"?", b"")
+    d.lines.append("unknown case")
+    d.cases += b"R\0\1"
+    d.lines.append("cut case")
+    return d
+
+
+if __name__ == "__main__":
+    part, kind = (sys.argv + ["", ""])[1:3]
+    if part not in ("stdin", "stdout") or kind not in ("", "long"):
+        sys.exit(__doc__)
+    d = drill(kind == "long")
+    if part == "stdin":
+        sys.stdout.buffer.write(d.cases)
+    else:
+        print("\n".join(d.lines))
