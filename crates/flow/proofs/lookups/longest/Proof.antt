@@ -9,6 +9,7 @@ use lib.ListN.{length, take, drop, getD}
 use Rattle.flow.specs.Rules.{keyOf}
 use Rattle.flow.specs.Tables.{emptyEntry}
 use Rattle.flow.specs.Lookups.{Best, covers, better, bestOf}
+use Rattle.flow.specs.declared.Entry.{Entry}
 use Rattle.flow.proofs.Places.{best-start, best-step}
 use Rattle.flow.proofs.lookups.longest.Statement.{statement}
 use Rattle.flow.proofs.lookups.longest.Tie as tie
@@ -24,13 +25,16 @@ loop-holds : tie.Need-loop-holds Inv-loop μ-loop
 loop-holds c =
     (omega arith, sym (best-start (c .args .count) (c .args .count) (c .args .t1) (c .args .address) (omega arith)))
 
+-- the entry of a turn
+abbrev entry : tie.In-loop Inv-loop μ-loop → Entry
+entry c = getD (c .before .before .args .t1) (c .before .loop .i - 1) emptyEntry
+
 -- the best of the entries from i - 1 on is what the turn makes of those held
 turn : (c : tie.In-loop Inv-loop μ-loop)
     → let a = c .before .before .args in
     let at = c .before .loop in
-    let e = getD (a .t1) (at .i - 1) emptyEntry in
     bestOf (a .address) (drop (at .i - 1) (take (a .count) (a .t1)))
-    ≡ better (covers (keyOf e) (a .address)) e (at .best, at .length)
+    ≡ better (covers (keyOf (entry c)) (a .address)) (entry c) (at .best, at .length)
 turn c =
     let a = c .before .before .args in
     let long : length (a .t1) ≡ 64 = search needs in
@@ -40,12 +44,16 @@ turn c =
 loop-again : tie.Need-loop-again Inv-loop μ-loop
 loop-again c =
     let covered = sym (c .before .before .before .does-cover .ensures) ∙ c .before .before .if1 .taken in
-    (omega arith, rw (turn (c .before .before .before .before .before), covered, le-leb _ _ (c .if2 .taken)))
+    let at = c .before .before .before .before .before in
+    let longer = le-leb (at .before .loop .length) (entry at .length) (omega arith) in
+    (omega arith, rw (turn at, covered, longer))
 
 loop-again-2 : tie.Need-loop-again-2 Inv-loop μ-loop
 loop-again-2 c =
     let covered = sym (c .before .before .before .does-cover .ensures) ∙ c .before .before .if1 .taken in
-    (omega arith, rw (turn (c .before .before .before .before .before), covered, lt-leb _ _ (c .if2 .left)))
+    let at = c .before .before .before .before .before in
+    let shorter = lt-leb (at .before .loop .length) (entry at .length) (omega arith) in
+    (omega arith, rw (turn at, covered, shorter))
 
 loop-again-3 : tie.Need-loop-again-3 Inv-loop μ-loop
 loop-again-3 c =
