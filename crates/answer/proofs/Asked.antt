@@ -1,10 +1,13 @@
 -- What a list of questions replies. Assumes nothing.
-use mathlib.Core.Path.{_≡_, refl}
-use mathlib.Core.Bool.{Bool, true, false}
+use mathlib.Core.Path.{_≡_, refl, sym, ap, _∙_}
+use mathlib.Core.Bool.{Bool, true, false, _&&_}
 use mathlib.Core.List.{List, [], _∷_}
-use Prim.Native.Nat.{ℕ, zero, suc}
+use Prim.Native.Nat.{ℕ, _≤_}
 use native.Mathlib.Omega.{arith}
-use Rattle.answer.specs.Ask.{Question, reply, firstNo}
+use lib.Dec.{leb, eqb, leb·zero}
+use borrow.Author.Tests.{leb-true}
+use Rattle.answer.specs.Ask.{Question, pick, reply, firstNo}
+use Rattle.answer.proofs.Bools.{by-bool, and-join, and-parts}
 
 module _ {A : Type 0} (refusal : ℕ → A) (next : A) where
   pub none-asked : reply [] refusal next ≡ next
@@ -21,12 +24,6 @@ module _ {A : Type 0} (refusal : ℕ → A) (next : A) where
   unfolding reply
   asked k b qs e = rw e
 
--- no number is given only where the first answer is yes, and none of the others
-pub passed : (k : ℕ) (b : Bool) (qs : List Question) → firstNo ((suc k, b) ∷ qs) ≡ 0 → (b ≡ true) × (firstNo qs ≡ 0)
-unfolding reply
-passed k true qs e = (refl, e)
-passed k false qs e = absurd (omega arith)
-
 -- a function of a reply
 pub reply-ap : {A B : Type 0} (f : A → B) (qs : List Question) (refusal : ℕ → A) (next : A)
     → f (reply qs refusal next) ≡ reply qs (λ k. f (refusal k)) (f next)
@@ -35,31 +32,59 @@ reply-ap f [] refusal next = refl
 reply-ap f ((k, true) ∷ qs) refusal next = reply-ap f qs refusal next
 reply-ap f ((k, false) ∷ qs) refusal next = refl
 
--- a reply by the first number: none where every answer is yes, since no question has number 0
-unfoldable pub Numbered : List Question → Bool
-Numbered [] = true
-Numbered ((zero, b) ∷ qs) = false
-Numbered ((suc k, b) ∷ qs) = Numbered qs
+-- no question has a number below l
+abbrev pub From : ℕ → List Question → Bool
+From l [] = true
+From l ((k, b) ∷ qs) = leb l k && From l qs
 
-pub all-yes : {A : Type 0} (qs : List Question) (refusal : ℕ → A) (next : A) → Numbered qs ≡ true → firstNo qs ≡ 0
+from-0 : (qs : List Question) → From 0 qs ≡ true
+from-0 [] = refl
+from-0 ((k, b) ∷ qs) = and-join (leb 0 k) _ (leb·zero k) (from-0 qs)
+
+-- the reply by the first number: every answer is yes, or it is a refusal with that number
+pub by-reply : {A C : Type 0} (l : ℕ) (qs : List Question) (refusal : ℕ → A) (next : A) → From l qs ≡ true
+    → (l ≤ firstNo qs → reply qs refusal next ≡ refusal (firstNo qs) → C)
+    → (firstNo qs ≡ 0 → reply qs refusal next ≡ next → C) → C
+unfolding reply
+by-reply l [] refusal next n refuses passes = passes refl refl
+by-reply l ((k, true) ∷ qs) refusal next n refuses passes =
+    by-reply l qs refusal next (and-parts (leb l k) _ n .1) refuses passes
+by-reply l ((k, false) ∷ qs) refusal next n refuses passes =
+    refuses (leb-true l k (and-parts (leb l k) _ n .0)) refl
+
+-- so it is what follows where no number is given, since no question has number 0
+pub all-yes : {A : Type 0} (qs : List Question) (refusal : ℕ → A) (next : A) → From 1 qs ≡ true → firstNo qs ≡ 0
     → reply qs refusal next ≡ next
-unfolding reply Numbered
-all-yes [] refusal next n e = refl
-all-yes ((zero, b) ∷ qs) refusal next n e = cc
-all-yes ((suc k, true) ∷ qs) refusal next n e = all-yes qs refusal next n e
-all-yes ((suc k, false) ∷ qs) refusal next n e = absurd (omega arith)
+all-yes qs refusal next n e = by-reply 1 qs refusal next n (λ h f. absurd (omega arith)) (λ y f. f)
 
 pub some-no : {A : Type 0} (qs : List Question) (refusal : ℕ → A) (next : A) → (firstNo qs ≡ 0 → ⊥)
     → reply qs refusal next ≡ refusal (firstNo qs)
-unfolding reply
-some-no [] refusal next n = absurd (n refl)
-some-no ((k, true) ∷ qs) refusal next n = some-no qs refusal next n
-some-no ((k, false) ∷ qs) refusal next n = refl
+some-no qs refusal next n = by-reply 0 qs refusal next (from-0 qs) (λ h f. f) (λ y f. absurd (n y))
 
--- what holds of every refusal, and of what follows where every answer is yes, holds of the reply
+-- the first number, where it is not 0, is what a call refuses with
+pub stopped : {A : Type 0} (qs : List Question) (refusal : ℕ → A) (next : A) {k : ℕ} → k ≡ firstNo qs → (k ≡ 0 → ⊥)
+    → refusal k ≡ reply qs refusal next
+stopped qs refusal next e n = ap refusal e ∙ sym (some-no qs refusal next (λ z. n (e ∙ z)))
+
+-- the answer to the question with a number, and that it is yes where no number is given
+abbrev pub answerTo : ℕ → List Question → Bool
+answerTo j [] = true
+answerTo j ((k, b) ∷ qs) = pick (eqb k j) b (answerTo j qs)
+
+pub answered : (qs : List Question) → From 1 qs ≡ true → firstNo qs ≡ 0 → (j : ℕ) → answerTo j qs ≡ true
+unfolding reply
+answered [] n e j = refl
+answered ((k, true) ∷ qs) n e j =
+    by-bool (eqb k j) (λ q. rw q) (λ q. rw q (answered qs (and-parts (leb 1 k) _ n .1) e j))
+answered ((k, false) ∷ qs) n e j = absurd (omega (arith, leb-true 1 k (and-parts (leb 1 k) _ n .0)))
+
+-- what holds of the refusals from l on, or of all of them, and of what follows where every answer is yes, holds of the
+-- reply
+pub reply-from : {A : Type 0} (P : A → Type 0) (l : ℕ) (qs : List Question) (refuse : ℕ → A) (next : A)
+    → From l qs ≡ true → ((k : ℕ) → l ≤ k → P (refuse k)) → (firstNo qs ≡ 0 → P next) → P (reply qs refuse next)
+reply-from P l qs refuse next n refused asked =
+    by-reply l qs refuse next n (λ h f. rw f (refused _ h)) (λ y f. rw f (asked y))
+
 pub reply-keeps : {A : Type 0} (P : A → Type 0) (qs : List Question) (refuse : ℕ → A) (next : A)
     → ((k : ℕ) → P (refuse k)) → (firstNo qs ≡ 0 → P next) → P (reply qs refuse next)
-unfolding reply
-reply-keeps P [] refuse next refused asked = asked refl
-reply-keeps P ((k, true) ∷ qs) refuse next refused asked = reply-keeps P qs refuse next refused asked
-reply-keeps P ((k, false) ∷ qs) refuse next refused asked = refused k
+reply-keeps P qs refuse next refused asked = reply-from P 0 qs refuse next (from-0 qs) (λ k h. refused k) asked

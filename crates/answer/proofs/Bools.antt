@@ -63,3 +63,7 @@ same-test false false f g = refl
 pub pick-ap : {A B : Type 0} (f : A → B) (b : Bool) (x y : A) → pick b (f x) (f y) ≡ f (pick b x y)
 pick-ap f true x y = refl
 pick-ap f false x y = refl
+
+pub pick-same : {A : Type 0} (b : Bool) (x : A) → pick b x x ≡ x
+pick-same true x = refl
+pick-same false x = refl

@@ -9,7 +9,8 @@ use lib.Dec.{ltb, leb}
 use borrow.Author.Tests.{le-leb, lt-ltb, ltb-true}
 use lib.ListN.{length, drop, length-take, length-append}
 use lib.Seq.{drop-append-seam}
-use Rattle.answer.specs.Ask.{pick, reply}
+use Rattle.answer.specs.Ask.{pick}
+use Rattle.answer.proofs.Asked.{none-asked, asked, answered, reply-keeps}
 use Rattle.answer.proofs.Bools.{and-join, and-parts, or-join, or-right}
 use Rattle.lists.specs.Arrays.{pad, everyTail, every}
 use Rattle.lists.specs.Kinds.{among}
@@ -173,15 +174,12 @@ apply-table r t w h m =
     let o = ok-ordered t h in
     table-ok (applyRule r (meaning t)) (room-law r (meaning t) o (ok-few t h) m) (apply-ordered r (meaning t) w o)
 
--- and so does every call of apply, whatever the rule: a refused one leaves the table
+-- such a rule is applied, and so every call of apply keeps a good table: a refused one leaves it
+pub apply-done : (t : Table) (r : Rule) → tableOk t ≡ true → wellFormed r ≡ true → roomFor r (meaning t) ≡ true
+    → applyTo t r ≡ record { answer = 1; table = changed r t }
+apply-done t r h w m = asked _ _ 20 _ _ h ∙ asked _ _ 15 _ _ w ∙ asked _ _ 19 _ _ m ∙ none-asked _ _
+
 pub apply-keeps : (t : Table) (r : Rule) → tableOk t ≡ true → tableOk (applyTo t r .table) ≡ true
-unfolding reply
-apply-keeps t r h = go (tableOk t) (wellFormed r) (roomFor r (meaning t)) (λ w m. apply-table r t w h m)
-  where
-    go : (a b c : Bool) → (b ≡ true → c ≡ true → tableOk (changed r t) ≡ true)
-        → tableOk (reply {A = Applied} ((20, a) ∷ (15, b) ∷ (19, c) ∷ []) (λ k. record { answer = k; table = t })
-        (record { answer = 1; table = changed r t }) .table) ≡ true
-    go false b c f = h
-    go true false c f = h
-    go true true false f = h
-    go true true true f = f refl refl
+apply-keeps t r h =
+    reply-keeps (λ (x : Applied). tableOk (x .table) ≡ true) _ _ _ (λ k. h)
+    (λ pass. let yes = answered _ refl pass in apply-table r t (yes 15) h (yes 19))

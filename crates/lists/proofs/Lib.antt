@@ -5,5 +5,6 @@ pub mod Counts
 pub mod Padding
 pub mod Members
 pub mod Pigeonhole
+pub mod Rising
 pub mod Numbers
 pub mod Runs

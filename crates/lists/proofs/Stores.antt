@@ -1,5 +1,5 @@
 -- An array as a list: what a loop that stores from the front has made so far, what is left before a loop that reads,
--- and an element put in and one taken out. Assumes nothing.
+-- an element put in and one taken out, and parts of a map. Assumes nothing.
 use mathlib.Core.Path.{_≡_, refl, sym, ap, _∙_}
 use mathlib.Core.List.{List, [], _∷_, _++_, append-assoc, append-nil, map}
 use Prim.Native.Nat.{ℕ, zero, suc, _+_, _-_, _≤_, _<_}
@@ -106,3 +106,15 @@ module _ {A : Type 0} where
   del-holds es zero = refl
   del-holds [] (suc a) = refl
   del-holds (x ∷ xs) (suc a) = ap (λ (l : List A). x ∷ l) (del-holds xs a)
+
+-- a beginning and a rest of a map
+module _ {A B : Type 0} (f : A → B) where
+  pub take-map : (n : ℕ) (l : List A) → take n (map f l) ≡ map f (take n l)
+  take-map zero l = refl
+  take-map (suc n) [] = refl
+  take-map (suc n) (x ∷ l) = ap (λ (r : List B). f x ∷ r) (take-map n l)
+
+  pub drop-map : (n : ℕ) (l : List A) → drop n (map f l) ≡ map f (drop n l)
+  drop-map zero l = refl
+  drop-map (suc n) [] = refl
+  drop-map (suc n) (x ∷ l) = drop-map n l

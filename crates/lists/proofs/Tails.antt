@@ -7,9 +7,9 @@ use Prim.Native.Nat.{ℕ, zero, suc, _+_, _≤_, _<_}
 use native.Mathlib.Numerals.{add-one}
 use native.Mathlib.Omega.{arith}
 use lib.ListN.{length, take, drop, getD, set, replicate, drop-of-length-le}
-use lib.Seq.{drop-cons}
 use Rattle.answer.proofs.Bools.{and-join, and-parts}
 use Rattle.lists.specs.Arrays.{everyTail, onHead, every}
+use Rattle.lists.proofs.Stores.{rest, ahead, back}
 
 module _ {A : Type 0} where
   pub tail-step : (f : List A → Bool) (l : List A) (i : ℕ) → i < length l
@@ -22,9 +22,6 @@ module _ {A : Type 0} where
   pub tail-end : (f : List A → Bool) (l : List A) (i : ℕ) → length l ≤ i → everyTail f (drop i l) ≡ true
   unfolding everyTail
   tail-end f l i h = ap (everyTail f) (drop-of-length-le l {i = i} h)
-
-  pub head-at : (f : A → Bool) (l : List A) (i : ℕ) (z : A) → i < length l → onHead f (drop i l) ≡ f (getD l i z)
-  head-at f l i z h = ap (onHead f) (drop-cons l i z h)
 
   -- where only z passes a test, a list that passes it is z over and over; and such a list passes
   pub every-replicate : (f : A → Bool) (z : A) → ((x : A) → f x ≡ true → x ≡ z) → (l : List A) → every f l ≡ true
@@ -41,6 +38,24 @@ module _ {A : Type 0} where
   replicate-every f z (suc n) e = rw e (replicate-every f z n e)
 
 module _ {A : Type 0} (f : A → Bool) where
+  -- a turn and the end of a loop that tests every element: of all, and of the first n
+  pub every-rest : (l : List A) (i : ℕ) (z : A) → i < length l
+      → every f (drop i l) ≡ (f (getD l i z) && every f (drop (i + 1) l))
+  unfolding everyTail
+  every-rest l i z h = ap (every f) (rest l i z h)
+
+  pub every-end : (l : List A) (i : ℕ) → length l ≤ i → every f (drop i l) ≡ true
+  every-end = tail-end (onHead f)
+
+  pub every-ahead : (l : List A) (n i : ℕ) (z : A) → i < n → n ≤ length l
+      → every f (drop i (take n l)) ≡ (f (getD l i z) && every f (drop (i + 1) (take n l)))
+  unfolding everyTail
+  every-ahead l n i z h k = ap (every f) (ahead l n i z h (omega arith))
+
+  pub every-back : (l : List A) (n i : ℕ) → n ≤ i → every f (drop i (take n l)) ≡ true
+  unfolding everyTail
+  every-back l n i h = ap (every f) (back l n i h)
+
   -- a test of every element says it of each, and follows from each
   pub every-at : (l : List A) (i : ℕ) (z : A) → every f l ≡ true → i < length l → f (getD l i z) ≡ true
   unfolding everyTail
@@ -90,15 +105,3 @@ module _ {A : Type 0} (f : A → Bool) where
   every-map g m p (x ∷ l) h =
       let t = and-parts (g x) (every g l) h in
       and-join (f (m x)) _ (p x (t .0)) (every-map g m p l (t .1))
-
--- a beginning and a rest of a map
-module _ {A B : Type 0} (f : A → B) where
-  pub take-map : (n : ℕ) (l : List A) → take n (map f l) ≡ map f (take n l)
-  take-map zero l = refl
-  take-map (suc n) [] = refl
-  take-map (suc n) (x ∷ l) = ap (λ (r : List B). f x ∷ r) (take-map n l)
-
-  pub drop-map : (n : ℕ) (l : List A) → drop n (map f l) ≡ map f (drop n l)
-  drop-map zero l = refl
-  drop-map (suc n) [] = refl
-  drop-map (suc n) (x ∷ l) = drop-map n l

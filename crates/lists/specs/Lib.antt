@@ -1,5 +1,6 @@
--- Lists as arrays, different members of a list, counting, and numbers as bytes.
+-- Lists as arrays, different members of a list, counting, rising numbers, and numbers as bytes.
 pub mod Arrays
 pub mod Kinds
 pub mod Counts
+pub mod Rising
 pub mod Bytes

@@ -4,7 +4,7 @@ use mathlib.Core.Path.{_≡_, refl, _∙_}
 use mathlib.Core.Bool.{Bool, true, false}
 use mathlib.Core.List.{List, [], _∷_}
 use mathlib.Core.Logic.{_⊎_, inl, inr}
-use Prim.Native.Nat.{ℕ}
+use Prim.Native.Nat.{ℕ, _≤_}
 use native.Mathlib.Omega.{arith}
 use borrow.Author.Tests.{eq-eqb, ne-eqb}
 use lib.Dec.{eqb}
@@ -12,8 +12,9 @@ use lib.ListN.{length}
 use Rattle.answer.specs.Ask.{reply}
 use Rattle.answer.proofs.Asked.{none-asked, refused, asked}
 use Rattle.answer.proofs.Bools.{by-eq}
-use Rattle.lists.specs.Bytes.{byteAt}
-use Rattle.message.specs.Layout.{eventKind, shareKind, acknowledgementKind, kindAt}
+use Rattle.lists.specs.Bytes.{byteAt, field}
+use Rattle.flow.specs.declared.Rule.{Rule}
+use Rattle.message.specs.Layout.{eventKind, shareKind, acknowledgementKind, kindAt, numberAt}
 use Rattle.message.specs.Layout.{eventLength, shareLength, acknowledgementLength}
 use Rattle.message.specs.Reading.{eventOf, shareOf, acknowledgementOf, decode, numberOf}
 use Rattle.message.specs.declared.End.{End}
@@ -123,9 +124,14 @@ gives Switch s e = rw (← e) (by-switch s (λ l k f. rw f (l, k, refl)) (λ k h
 gives Controller s e =
     rw (← e) (by-controller s (λ l k f. rw f (l, k, refl)) (λ l k f. rw f (l, k, refl)) (λ k h f. rw f h))
 
-above-0 : {k : ℕ} → (k ≡ 10) ⊎ (k ≡ 11) → k ≡ 0 → ⊥
-above-0 (inl e) z = omega arith
-above-0 (inr e) z = omega arith
+-- the number that a share was read with is the one in its bytes
+pub share-number : (s : List ℕ) {c w n : ℕ} {r : Rule} → decode Switch s ≡ Share c w n r → field s numberAt 4 ≡ n
+share-number s e = let h = gives Switch s e .2 in cc
+
+-- a refusal's number is that of a question
+pub from-10 : {k : ℕ} → (k ≡ 10) ⊎ (k ≡ 11) → 10 ≤ k
+from-10 (inl e) = omega arith
+from-10 (inr e) = omega arith
 
 -- what holds of the fields of each kind holds of a message that was read
 pub by-read : (P : Message → Type 0) (end : End) (s : List ℕ) → numberOf (decode end s) ≡ 0
@@ -134,7 +140,7 @@ pub by-read : (P : Message → Type 0) (end : End) (s : List ℕ) → numberOf (
     → (length s ≡ acknowledgementLength → byteAt s kindAt ≡ acknowledgementKind → P (acknowledgementOf s))
     → P (decode end s)
 by-read P Switch s h event share acknowledgement =
-    by-switch s (λ l k e. rw e (share l k)) (λ k r e. absurd (above-0 r (rw e at h)))
+    by-switch s (λ l k e. rw e (share l k)) (λ k r e. let z = rw e at h in absurd (omega (arith, from-10 r)))
 by-read P Controller s h event share acknowledgement =
     by-controller s (λ l k e. rw e (event l k)) (λ l k e. rw e (acknowledgement l k))
-    (λ k r e. absurd (above-0 r (rw e at h)))
+    (λ k r e. let z = rw e at h in absurd (omega (arith, from-10 r)))

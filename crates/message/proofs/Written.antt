@@ -2,16 +2,16 @@
 -- it, and every other byte of the frame is as it was; where it is refused the whole frame is. Assumes nothing.
 use mathlib.Core.Path.{_≡_, refl, ap, _∙_}
 use mathlib.Core.Bool.{true, false}
-use mathlib.Core.List.{List, _++_, append-assoc}
+use mathlib.Core.List.{List, [], _∷_, _++_, append-assoc}
 use Prim.Native.Nat.{ℕ, _+_, _≤_, _<_}
 use native.Mathlib.Omega.{arith}
-use borrow.Author.Tests.{le-leb, lt-leb}
+use borrow.Author.Tests.{le-leb, lt-leb, leb-true}
 use lib.ListN.{length, take, drop, length-append, length-drop}
 use lib.Seq.{take-at, drop-at, length-take-le}
-use Rattle.answer.proofs.Asked.{none-asked, refused, asked}
-use Rattle.answer.proofs.Bools.{by-bool, by-le}
+use Rattle.answer.specs.Ask.{Question, firstNo}
+use Rattle.answer.proofs.Asked.{none-asked, refused, asked, by-reply, answered}
 use Rattle.message.specs.Reading.{decode, isSealed}
-use Rattle.message.specs.Writing.{encode, lengthOf, isMessage, portSaid, placed, writeTo, InRange, endOf}
+use Rattle.message.specs.Writing.{encode, lengthOf, isMessage, portSaid, roomAt, placed, writeTo, InRange, endOf}
 use Rattle.message.specs.declared.Message.{Message}
 use Rattle.message.proofs.Inverse.{decode-encode, encode-sealed}
 use Rattle.message.proofs.Lengths.{encode-length}
@@ -32,6 +32,15 @@ module _ (w frame : List ℕ) (at : ℕ) (fit : at + length w ≤ length frame) 
 
   placed-length : length (placed w frame at) ≡ length frame
   placed-length = rw (length-append, length-append, before-length, length-drop) (omega arith)
+
+-- a frame after a message was written with a key at an offset of it
+pub record Sent (key : List ℕ) (m : Message) (frame : List ℕ) (at : ℕ) (after : List ℕ) : Type 0 where
+  pub bytes : take (lengthOf m) (drop at after) ≡ encode key m
+  pub read : decode (endOf m) (take (lengthOf m) (drop at after)) ≡ m
+  pub sealed : isSealed key (take (lengthOf m) (drop at after)) ≡ true
+  pub long : length after ≡ length frame
+  pub before : take at after ≡ take at frame
+  pub behind : drop (at + lengthOf m) after ≡ drop (at + lengthOf m) frame
 
 module _ (key : List ℕ) (m : Message) (frame : List ℕ) (at : ℕ) where
   -- the answers, by the first question whose answer is no
@@ -58,12 +67,10 @@ module _ (key : List ℕ) (m : Message) (frame : List ℕ) (at : ℕ) where
       → writeTo key m frame at ≡ (0, placed (encode key m) frame at) → C)
       → ((k : ℕ) → 0 < k → writeTo key m frame at ≡ (k, frame) → C) → C
   by-written done refusal =
-      by-bool (isMessage m)
-      (λ y. by-bool (portSaid m)
-      (λ p. by-le (at + lengthOf m) (length frame) (λ r. done y p r (all-written y p r))
-      (λ r. refusal 25 (omega arith) (too-long-written y p r)))
-      (λ p. refusal 15 (omega arith) (malformed-written y p)))
-      (λ y. refusal 26 (omega arith) (nothing-written y))
+      let qs : List Question =
+      (26, isMessage m) ∷ (15, portSaid m) ∷ (25, roomAt (length frame) at (lengthOf m)) ∷ [] in
+      by-reply 1 qs _ _ refl (λ h e. refusal (firstNo qs) h e)
+      (λ pass e. let yes = answered qs refl pass in done (yes 26) (yes 15) (leb-true _ _ (yes 25)) e)
 
   -- what an answer says
   pub written-asked : writeTo key m frame at .0 ≡ 0
@@ -87,6 +94,22 @@ module _ (key : List ℕ) (m : Message) (frame : List ℕ) (at : ℕ) where
   pub sealed-written : writeTo key m frame at .0 ≡ 0
       → isSealed key (take (lengthOf m) (drop at (writeTo key m frame at .1))) ≡ true
   sealed-written h = rw (written h) (encode-sealed key m (written-asked h .0))
+
+  -- all that there is to say of the frame that was written
+  pub sent : isMessage m ≡ true → portSaid m ≡ true → InRange m → at + lengthOf m ≤ length frame
+      → Sent key m frame at (placed (encode key m) frame at)
+  sent y p r room =
+      let w = encode key m in
+      let there : take (lengthOf m) (drop at (placed w frame at)) ≡ w =
+      rw (← encode-length key m) (placed-there w frame at (fits room)) in
+      record {
+        bytes = there;
+        read = rw there (decode-encode key m r p);
+        sealed = rw there (encode-sealed key m y);
+        long = placed-length w frame at (fits room);
+        before = placed-before w frame at (fits room);
+        behind = rw (← encode-length key m) (placed-after w frame at (fits room));
+      }
 
   -- whether it was written or refused
   pub written-length : length (writeTo key m frame at .1) ≡ length frame

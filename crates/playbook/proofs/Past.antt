@@ -11,7 +11,7 @@ use lib.ListN.{length, drop, length-drop, drop-of-length-le}
 use lib.Seq.{drop-drop}
 use Rattle.lists.specs.Bytes.{byteAt}
 use Rattle.answer.specs.Ask.{Question, reply, firstNo, pick}
-use Rattle.answer.proofs.Asked.{none-asked, asked, Numbered, all-yes, some-no}
+use Rattle.answer.proofs.Asked.{none-asked, asked, From, all-yes, stopped}
 use Rattle.playbook.specs.Limits.{planKind, changeKind, planSize, changeSize, endSize}
 use Rattle.playbook.specs.Books.{Book, meaning, Trigger, withPlan, withChange}
 use Rattle.playbook.specs.Books.{planQuestions, changeQuestions, taken, openPlan, listChange}
@@ -107,13 +107,13 @@ pub record Turn (s : List ℕ) (r : Taken) (to : ℕ) : Type 0 where
   pub goes-on : r .answer ≡ 0 → SoFar s (r .playbook) to
 
 module _ (s : List ℕ) (p : Playbook) (at : ℕ) (so-far : SoFar s p at) (more : at < length s) where
-  turn : (qs : List Question) (next : Book) (to : ℕ) → to ≤ length s → Numbered qs ≡ true
+  turn : (qs : List Question) (next : Book) (to : ℕ) → to ≤ length s → From 1 qs ≡ true
       → (firstNo qs ≡ 0 → Fits next) → readOn s at (meaning p) ≡ reply qs refusal (readOn s to next)
       → (r : Taken) → r ≡ taken qs (meaning p) next → Turn s r to
   turn qs next to h n fits follows r e =
       let k = answer-is qs (meaning p) next r e in
       record {
-        stops = λ some. sym (so-far .2 ∙ follows ∙ some-no qs refusal _ (λ z. some (k ∙ z)) ∙ ap refusal (sym k));
+        stops = λ some. stopped qs refusal _ k some ∙ sym (so-far .2 ∙ follows);
         goes-on = λ none.
             let f = fits (sym k ∙ none) in
             let stored = next-stored qs (meaning p) next r e n none in (
@@ -130,14 +130,12 @@ module _ (s : List ℕ) (p : Playbook) (at : ℕ) (so-far : SoFar s p at) (more 
 
   pub plan-turn : (t : Trigger) → recordAt (drop at s) ≡ Opens (t .0) (t .1) → (r : Taken) → r ≡ openPlan (meaning p) t
       → Turn s r (at + planSize)
-  unfolding Numbered
   plan-turn t here =
       turn (planQuestions (meaning p) t) (withPlan (meaning p) t) (at + planSize) (omega (arith, left _ here)) refl
       (plan-passed (meaning p) t (sound-fits p (so-far .1))) (record-next s at (meaning p) more _ here)
 
   pub change-turn : (c : Change) → recordAt (drop at s) ≡ Lists c → (r : Taken) → r ≡ listChange (meaning p) c
       → Turn s r (at + changeSize)
-  unfolding Numbered
   change-turn c here =
       turn (changeQuestions (meaning p) c) (withChange (meaning p) c) (at + changeSize) (omega (arith, left _ here))
       refl (change-passed (meaning p) c (sound-fits p (so-far .1))) (record-next s at (meaning p) more _ here)

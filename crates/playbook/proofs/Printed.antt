@@ -10,7 +10,7 @@ use lib.Dec.{ltb}
 use lib.ListN.{length, take, drop, length-append, length-drop, take-append-drop}
 use lib.Seq.{length-take-le}
 use borrow.Author.Tests.{ltb-true, eq-eqb}
-use Rattle.answer.proofs.Asked.{asked, none-asked, Numbered, all-yes}
+use Rattle.answer.proofs.Asked.{asked, none-asked, all-yes}
 use Rattle.answer.proofs.Bools.{and-parts}
 use Rattle.answer.specs.Ask.{firstNo}
 use Rattle.lists.specs.Arrays.{everyTail, every}
@@ -53,7 +53,6 @@ change-record c rest w r =
 -- the reader past a record that passes its questions
 past-plan : (t : Trigger) (rest : List ℕ) (used : ℕ) (b : Book) → firstNo (planQuestions b t) ≡ 0
     → readFrom 0 (planKind ∷ t .0 ∷ t .1 ∷ rest) used b ≡ readFrom 0 rest (used + planSize) (withPlan b t)
-unfolding Numbered
 past-plan t rest used b pass =
     let l = planKind ∷ t .0 ∷ t .1 ∷ rest in
     by-record l used b _ (omega arith) (whole-record l planKind refl refl (omega arith))
@@ -62,7 +61,7 @@ past-plan t rest used b pass =
 past-change : (c : Change) (rest : List ℕ) (used : ℕ) (b : Book) → ruleInRange c ≡ true
     → firstNo (changeQuestions b c) ≡ 0
     → readFrom 0 (changeBytes c rest) used b ≡ readFrom 0 rest (used + changeSize) (withChange b c)
-unfolding Numbered be
+unfolding be
 past-change c rest used b r pass =
     let formed = change-passes b c pass .formed in
     by-record (changeBytes c rest) used b (Lists c) (omega arith) (change-record c rest formed r)

@@ -1,6 +1,6 @@
 -- The questions of a plan and of a change: what it says of the record and the book that every answer is yes, both ways.
 -- Assumes nothing.
-use mathlib.Core.Path.{_≡_, _∙_}
+use mathlib.Core.Path.{_≡_, refl, _∙_}
 use mathlib.Core.Bool.{true, not}
 use mathlib.Core.List.{[], _∷_, _++_}
 use Prim.Native.Nat.{_≤_, _<_}
@@ -8,7 +8,7 @@ use lib.Dec.{ltb}
 use lib.ListN.{length}
 use borrow.Author.Tests.{ltb-true, leb-true, lt-ltb, le-leb}
 use Rattle.answer.specs.Ask.{firstNo}
-use Rattle.answer.proofs.Asked.{passed, asked, none-asked}
+use Rattle.answer.proofs.Asked.{asked, none-asked, answered}
 use Rattle.answer.proofs.Bools.{and-join, and-parts}
 use Rattle.flow.specs.Rules.{wellFormed}
 use Rattle.playbook.specs.Limits.{maxPlans, maxChanges, maxOfPlan, maxKeys, switchCount}
@@ -22,9 +22,8 @@ pub record PlanPasses (b : Book) (t : Trigger) : Type 0 where
 
 pub plan-passes : (b : Book) (t : Trigger) → firstNo (planQuestions b t) ≡ 0 → PlanPasses b t
 plan-passes b t pass =
-    let known = passed 11 _ _ pass in
-    let new = passed 34 _ _ (known .1) in
-    record { known = ltb-true _ _ (known .0); new = new .0; room = ltb-true _ _ (passed 35 _ _ (new .1) .0) }
+    let yes = answered _ refl pass in
+    record { known = ltb-true _ _ (yes 12); new = yes 35; room = ltb-true _ _ (yes 36) }
 
 pub plan-asked : (b : Book) (t : Trigger) → PlanPasses b t → firstNo (planQuestions b t) ≡ 0
 plan-asked b t q =
@@ -41,18 +40,15 @@ pub record ChangePasses (b : Book) (c : Change) : Type 0 where
 
 pub change-passes : (b : Book) (c : Change) → firstNo (changeQuestions b c) ≡ 0 → ChangePasses b c
 change-passes b c pass =
-    let known = passed 11 _ _ pass in
-    let some = passed 33 _ _ (known .1) in
-    let formed = passed 14 _ _ (some .1) in
-    let room = passed 35 _ _ (formed .1) in
-    let both = and-parts (ltb (length (b .changes)) maxChanges) _ (room .0) in
+    let yes = answered _ refl pass in
+    let both = and-parts (ltb (length (b .changes)) maxChanges) _ (yes 36) in
     record {
-      known = ltb-true _ _ (known .0);
-      some = ltb-true _ _ (some .0);
-      formed = formed .0;
+      known = ltb-true _ _ (yes 12);
+      some = ltb-true _ _ (yes 34);
+      formed = yes 15;
       room = ltb-true _ _ (both .0);
       short = ltb-true _ _ (both .1);
-      few = leb-true _ _ (passed 36 _ _ (room .1) .0);
+      few = leb-true _ _ (yes 37);
     }
 
 pub change-asked : (b : Book) (c : Change) → ChangePasses b c → firstNo (changeQuestions b c) ≡ 0

@@ -8,7 +8,7 @@ use native.Mathlib.Omega.{arith}
 use lib.ListN.{length, set, getD, length-append}
 use lib.Seq.{getD-take}
 use Rattle.answer.specs.Ask.{Question, firstNo}
-use Rattle.answer.proofs.Asked.{reply-ap, Numbered, all-yes}
+use Rattle.answer.proofs.Asked.{reply-ap, From, all-yes}
 use Rattle.lists.specs.Arrays.{pad}
 use Rattle.lists.proofs.Padding.{pad-snoc, pad-get, pad-set}
 use Rattle.playbook.specs.Limits.{maxPlans, maxChanges}
@@ -104,7 +104,7 @@ module _ (qs : List Question) (b next : Book) (r : Taken) (e : r ≡ taken qs b 
   pub answer-is : r .answer ≡ firstNo qs
   answer-is = ap (λ (x : Taken). x .answer) e ∙ reply-ap (λ (x : Taken). x .answer) qs _ _
 
-  pub next-stored : Numbered qs ≡ true → r .answer ≡ 0 → r .playbook ≡ storeOf next
+  pub next-stored : From 1 qs ≡ true → r .answer ≡ 0 → r .playbook ≡ storeOf next
   next-stored n a = ap (λ (x : Taken). x .playbook) (e ∙ all-yes qs _ _ n (sym answer-is ∙ a))
 
 -- what passed its questions fits the store

@@ -1,38 +1,38 @@
 -- What calls keep: a setup answered 0 makes a state within its limits, every call leaves it so, and none lowers the
--- last applied number or changes the id or the number of controllers. Each is told by the four things that a call may
--- do to a state: leave it, store a share, store one and apply its rule, or take an event. Assumes nothing.
+-- last applied number or changes the id or the number of controllers. Assumes nothing.
 use mathlib.Core.Path.{_≡_, refl, ap, _∙_}
-use mathlib.Core.Bool.{true, false, _&&_}
-use mathlib.Core.List.{List, [], _∷_}
+use mathlib.Core.Bool.{true, false}
+use mathlib.Core.List.{List, []}
 use Prim.Native.Nat.{ℕ, _≤_, _<_}
 use native.Mathlib.Omega.{arith}
-use lib.ListN.{take, replicate}
+use lib.ListN.{replicate}
 use lib.Seq.{take-set-lt, drop-set-lt}
 use lib.Dec.{ltb, leb}
 use borrow.Author.Tests.{lt-ltb, leb-false}
-use Rattle.answer.proofs.Asked.{none-asked, refused, asked, reply-keeps}
-use Rattle.answer.proofs.Bools.{by-bool, and-join, or-left, or-right}
-use Rattle.lists.specs.Arrays.{everyTail, every}
-use Rattle.lists.proofs.Tails.{replicate-every, every-take, every-drop, every-set, every-map, take-map, drop-map}
+use Rattle.answer.proofs.Asked.{refused, answered, reply-from}
+use Rattle.answer.proofs.Bools.{by-bool, or-left, or-right}
+use Rattle.lists.specs.Arrays.{everyTail}
+use Rattle.lists.proofs.Rising.{rising-last}
+use Rattle.lists.proofs.Stores.{take-map, drop-map}
+use Rattle.lists.proofs.Tails.{replicate-every, every-take, every-drop, every-set, every-map}
 use Rattle.flow.specs.Rules.{wellFormed}
-use Rattle.flow.specs.Tables.{meaning, tableOk, tableOf}
+use Rattle.flow.specs.Tables.{meaning}
 use Rattle.flow.specs.Changes.{roomFor}
 use Rattle.flow.specs.declared.Rule.{Rule}
 use Rattle.flow.proofs.Kept.{table-ok, apply-table}
 use Rattle.switch.specs.Slots.{slotFor, emptySlot, slotEmpty, slotOk, emptied}
 use Rattle.switch.specs.States.{unchanged, inRange, fresh, setupOf, switchOk}
 use Rattle.switch.specs.Shares.{stored, applied}
-use Rattle.switch.specs.Raising.{nextEvent, withEvent, raisedBy}
+use Rattle.switch.specs.Raising.{withEvent, raisedBy}
 use Rattle.switch.specs.Receiving.{receivedBy}
-use Rattle.switch.specs.Writing.{written, eventFor, acknowledgementFor}
+use Rattle.switch.specs.Writing.{written}
 use Rattle.switch.specs.Calls.{Call, receives, raises, writesEvent, writesAcknowledgement, replyTo, after}
 use Rattle.switch.specs.declared.Reply.{Reply}
 use Rattle.switch.specs.declared.Slot.{Slot}
 use Rattle.switch.specs.declared.Stepped.{Stepped}
 use Rattle.switch.specs.declared.Switch.{Switch}
 use Rattle.switch.proofs.Within.{within, obeys}
-use Rattle.switch.proofs.Taken.{Arrives, by-received}
-use Rattle.switch.proofs.Sent.{written-state}
+use Rattle.switch.proofs.Moves.{Moves, event-only, share-stored, rule-applied, moves, numbers-made, after-keeps}
 
 -- a setup: refused, or a state to which nothing has happened
 module _ (id n : ℕ) where
@@ -40,20 +40,17 @@ module _ (id n : ℕ) where
   setup-refused e = refused (unchanged (fresh 0 0)) _ 20 _ [] e
 
   pub setup-good : setupOf id n .answer ≡ 0 → (inRange id n ≡ true) × (setupOf id n .state ≡ fresh id n)
-  setup-good h =
-      by-bool (inRange id n)
-      (λ e. (e, ap (λ (r : Reply). r .state) (asked (unchanged (fresh 0 0)) _ 20 _ [] e ∙ none-asked _ _)))
-      (λ e. let z = rw (setup-refused e) at h in absurd (omega arith))
+  setup-good =
+      reply-from (λ (r : Reply). r .answer ≡ 0 → (inRange id n ≡ true) × (r .state ≡ fresh id n)) 1 _ _ _ refl
+      (λ k h e. absurd (omega arith)) (λ y e. (answered _ refl y 20, refl))
 
   fresh-kept : inRange id n ≡ true → switchOk (fresh id n) ≡ true
   unfolding switchOk everyTail
   fresh-kept e =
       let slots = replicate 16 emptySlot in
-      and-join (inRange id n && tableOk (tableOf []) && every (slotOk 0) (take n slots)) _
-      (and-join (inRange id n && tableOk (tableOf [])) _
-      (and-join (inRange id n) _ e (table-ok [] (omega arith) refl))
-      (every-take (slotOk 0) n slots (replicate-every (slotOk 0) emptySlot 16 refl)))
-      (every-drop slotEmpty n slots (replicate-every slotEmpty emptySlot 16 refl))
+      let held = every-take (slotOk 0) n slots (replicate-every (slotOk 0) emptySlot 16 refl) in
+      let unused = every-drop slotEmpty n slots (replicate-every slotEmpty emptySlot 16 refl) in
+      rw (e, table-ok [] (omega arith) refl, held, unused)
 
   pub setup-kept : setupOf id n .answer ≡ 0 → switchOk (setupOf id n .state) ≡ true
   setup-kept h = let g = setup-good h in rw (g .1) (fresh-kept (g .0))
@@ -110,56 +107,28 @@ module _ (s : Switch) where
   unfolding switchOk
   event-kept e h = h
 
--- what a call does to a state
-pub data Moves (keys : List ℕ) (s : Switch) : Switch → Type 0 where
-  as-was : Moves keys s s
-  share-stored : {bytes : List ℕ} {c number : ℕ} {rule : Rule} → Arrives s keys bytes c number rule
-      → Moves keys s (stored s c number rule)
-  rule-applied : {bytes : List ℕ} {c number : ℕ} {rule : Rule} → Arrives s keys bytes c number rule
-      → Moves keys s (applied (stored s c number rule) number rule)
-  event-taken : (e : Stepped) → Moves keys s (withEvent s e .state)
-
 module _ (keys : List ℕ) (s : Switch) where
-  pub moves : (x : Call) → Moves keys s (replyTo keys s x .state)
-  unfolding raisedBy
-  moves (receives bytes) =
-      by-received s keys bytes (λ k h e. rw e as-was) (λ c number rule a h e. rw e as-was)
-      (λ c number rule a h q e. rw e (share-stored a)) (λ c number rule a h q e. rw e (rule-applied a))
-  moves (raises cause) =
-      reply-keeps (λ (r : Reply). Moves keys s (r .state)) _ _ _ (λ k. as-was)
-      (λ h. event-taken (nextEvent (s .raised) cause))
-  moves (writesEvent c frame at) = rw (written-state s keys c (eventFor s c) _ frame at) as-was
-  moves (writesAcknowledgement c frame at) = rw (written-state s keys c (acknowledgementFor s c) true frame at) as-was
-
-  kept : {t : Switch} → Moves keys s t → switchOk s ≡ true → switchOk t ≡ true
-  kept as-was h = h
-  kept (share-stored a) h = stored-kept s _ _ _ h (a .known) (a .passes .above)
+  kept : {t : Switch} {ks : List ℕ} → Moves keys s t ks → switchOk s ≡ true → switchOk t ≡ true
+  kept (event-only e) h = event-kept s e h
+  kept (share-stored a few) h = stored-kept s _ _ _ h (a .known) (a .passes .above)
   kept (rule-applied {bytes} {c} {number} {rule} a) h =
       let held = stored-kept s c number rule h (a .known) (a .passes .above) in
       applied-kept (stored s c number rule) number rule held (a .passes .formed) (a .passes .room)
-  kept (event-taken e) h = event-kept s e h
 
-  grows : {t : Switch} → Moves keys s t → s .last ≤ t .last
-  grows as-was = omega arith
-  grows (share-stored a) = omega arith
-  grows (rule-applied a) = omega (arith, a .passes .above)
-  grows (event-taken e) = omega arith
-
-  names : {t : Switch} → Moves keys s t → (t .id ≡ s .id) × (t .n ≡ s .n)
-  names as-was = (refl, refl)
-  names (share-stored a) = (refl, refl)
+  names : {t : Switch} {ks : List ℕ} → Moves keys s t ks → (t .id ≡ s .id) × (t .n ≡ s .n)
+  names (event-only e) = (refl, refl)
+  names (share-stored a few) = (refl, refl)
   names (rule-applied a) = (refl, refl)
-  names (event-taken e) = (refl, refl)
 
   module _ (x : Call) where
     pub call-kept : switchOk s ≡ true → switchOk (replyTo keys s x .state) ≡ true
-    call-kept = kept (moves x)
+    call-kept = kept (moves keys s x)
 
     pub last-grows : s .last ≤ replyTo keys s x .state .last
-    last-grows = grows (moves x)
+    last-grows = let n = numbers-made keys s (moves keys s x) in omega (arith, rising-last _ _ (n .0), n .1)
 
     pub call-names : (replyTo keys s x .state .id ≡ s .id) × (replyTo keys s x .state .n ≡ s .n)
-    call-names = names (moves x)
+    call-names = names (moves keys s x)
 
   -- a state past its limits gets 20 from every call, and stays
   pub past-refused : (x : Call) → switchOk s ≡ false → replyTo keys s x ≡ unchanged s 20
@@ -170,26 +139,18 @@ module _ (keys : List ℕ) (s : Switch) where
   past-refused (writesAcknowledgement c frame at) h = ap (λ (r : Reply × List ℕ). r .0) (refused _ _ 20 _ _ h)
 
 -- the same of lists of calls
-module _ (keys : List ℕ) where
-  pub after-kept : (s : Switch) (xs : List Call) → switchOk s ≡ true → switchOk (after keys s xs) ≡ true
-  unfolding after
-  after-kept s [] h = h
-  after-kept s (x ∷ xs) h = after-kept (replyTo keys s x .state) xs (call-kept keys s x h)
+module _ (keys : List ℕ) (s : Switch) (xs : List Call) where
+  pub after-kept : switchOk s ≡ true → switchOk (after keys s xs) ≡ true
+  after-kept = after-keeps (λ t. switchOk t ≡ true) keys (call-kept keys) s xs
 
-  pub after-grows : (s : Switch) (xs : List Call) → s .last ≤ after keys s xs .last
-  unfolding after
-  after-grows s [] = omega arith
-  after-grows s (x ∷ xs) = omega (arith, last-grows keys s x, after-grows (replyTo keys s x .state) xs)
+  pub after-grows : s .last ≤ after keys s xs .last
+  after-grows =
+      after-keeps (λ t. s .last ≤ t .last) keys (λ t x h. omega (arith, last-grows keys t x)) s xs (omega arith)
 
-  pub after-names : (s : Switch) (xs : List Call) → (after keys s xs .id ≡ s .id) × (after keys s xs .n ≡ s .n)
-  unfolding after
-  after-names s [] = (refl, refl)
-  after-names s (x ∷ xs) =
-      let a = call-names keys s x in
-      let b = after-names (replyTo keys s x .state) xs in
-      (b .0 ∙ a .0, b .1 ∙ a .1)
+  pub after-names : (after keys s xs .id ≡ s .id) × (after keys s xs .n ≡ s .n)
+  after-names =
+      after-keeps (λ t. (t .id ≡ s .id) × (t .n ≡ s .n)) keys
+      (λ t x h. let a = call-names keys t x in (a .0 ∙ h .0, a .1 ∙ h .1)) s xs (refl, refl)
 
-  pub after-refused : (s : Switch) (xs : List Call) → switchOk s ≡ false → after keys s xs ≡ s
-  unfolding after
-  after-refused s [] h = refl
-  after-refused s (x ∷ xs) h = rw (past-refused keys s x h) (after-refused s xs h)
+  pub after-refused : switchOk s ≡ false → after keys s xs ≡ s
+  after-refused h = after-keeps (λ t. t ≡ s) keys (λ t x e. rw (e, past-refused keys s x h)) s xs refl

@@ -3,9 +3,11 @@ pub mod Within
 pub mod Passing
 pub mod Taken
 pub mod Sent
+pub mod Moves
 pub mod Kept
 pub mod Effects
 pub mod Agreement
 pub mod Once
+pub mod Senders
 mod Bits
 mod Steps

@@ -1,11 +1,11 @@
 -- What a share that passes questions 15 to 19 obeys, and that it then passes them. Assumes nothing.
-use mathlib.Core.Path.{_≡_}
+use mathlib.Core.Path.{_≡_, refl}
 use mathlib.Core.Bool.{true, false, not}
 use Prim.Native.Nat.{ℕ, _≤_, _<_}
-use lib.Dec.{ltb, leb, eqb}
+use lib.Dec.{eqb}
 use borrow.Author.Tests.{ltb-true, leb-true, lt-ltb, le-leb, eq-eqb, ne-eqb}
 use Rattle.answer.specs.Ask.{firstNo, reply}
-use Rattle.answer.proofs.Asked.{passed}
+use Rattle.answer.proofs.Asked.{answered}
 use Rattle.answer.proofs.Bools.{by-or, or-right, by-eq, tf}
 use Rattle.flow.specs.Rules.{wellFormed}
 use Rattle.flow.specs.Tables.{meaning}
@@ -38,17 +38,13 @@ module _ (s : Switch) (slot : Slot) (number : ℕ) (rule : Rule) where
 
   pub passes : firstNo (shareQuestions s slot number rule) ≡ 0 → Passes s slot number rule
   passes h =
-      let a = passed 14 (wellFormed rule) _ h in
-      let b = passed 15 (ltb (s .last) number) _ (a .1) in
-      let c = passed 16 (leb (slot .number) number) _ (b .1) in
-      let d = passed 17 (keepsRule slot number rule) _ (c .1) in
-      let e = passed 18 (roomFor rule (meaning (s .table))) _ (d .1) in
+      let yes = answered (shareQuestions s slot number rule) refl h in
       record {
-        formed = a .0;
-        above = ltb-true _ _ (b .0);
-        latest = leb-true _ _ (c .0);
-        same = kept-rule (d .0);
-        room = e .0;
+        formed = yes 15;
+        above = ltb-true _ _ (yes 16);
+        latest = leb-true _ _ (yes 17);
+        same = kept-rule (yes 18);
+        room = yes 19;
       }
 
   pub passing : Passes s slot number rule → firstNo (shareQuestions s slot number rule) ≡ 0

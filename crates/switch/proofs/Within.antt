@@ -5,7 +5,7 @@ use Prim.Native.Nat.{_≤_, _<_}
 use lib.Dec.{ltb, leb}
 use lib.ListN.{take, drop}
 use borrow.Author.Tests.{ltb-true, leb-true, lt-ltb, le-leb}
-use Rattle.answer.proofs.Bools.{and-join, and-parts}
+use Rattle.answer.proofs.Bools.{and-parts}
 use Rattle.lists.specs.Arrays.{every}
 use Rattle.flow.specs.Tables.{tableOk}
 use Rattle.switch.specs.Slots.{slotEmpty, slotOk}
@@ -40,8 +40,4 @@ within s h =
 pub obeys : (s : Switch) → Within s → switchOk s ≡ true
 unfolding switchOk
 obeys s w =
-    let range = and-join (ltb (s .id) 16 && leb 1 (s .n)) _
-    (and-join (ltb (s .id) 16) _ (lt-ltb _ _ (w .known)) (le-leb _ _ (w .some))) (le-leb _ _ (w .few)) in
-    and-join (inRange (s .id) (s .n) && tableOk (s .table) && every (slotOk (s .last)) (take (s .n) (s .slots))) _
-    (and-join (inRange (s .id) (s .n) && tableOk (s .table)) _
-    (and-join (inRange (s .id) (s .n)) _ range (w .table)) (w .held)) (w .unused)
+    rw (lt-ltb _ _ (w .known), le-leb _ _ (w .some), le-leb _ _ (w .few), w .table, w .held, w .unused)

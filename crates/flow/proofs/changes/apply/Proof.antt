@@ -5,13 +5,13 @@ use mathlib.Core.Bool.{true}
 use borrow.Author.Needs.{needs}
 use borrow.Author.Tests.{not-true, not-false}
 use lib.ListN.{length}
-use Rattle.answer.proofs.Asked.{none-asked, refused, asked}
+use Rattle.answer.proofs.Asked.{refused, asked}
 use Rattle.lists.proofs.Stores.{length-mapped}
 use Rattle.flow.specs.Rules.{wellFormed}
 use Rattle.flow.specs.Tables.{meaning, tableOk}
 use Rattle.flow.specs.Changes.{roomFor}
 use Rattle.flow.proofs.Padded.{ok-padded}
-use Rattle.flow.proofs.Kept.{ok-ordered, ok-few, room-law}
+use Rattle.flow.proofs.Kept.{ok-ordered, ok-few, room-law, apply-done}
 use Rattle.flow.proofs.changes.apply.Statement.{statement}
 use Rattle.flow.proofs.changes.apply.Tie as tie
 
@@ -54,11 +54,10 @@ change-requires c κs =
 
 returns-4 : tie.Need-returns-4
 returns-4 c =
-    sym (asked _ _ 20 _ _ (within (c .before .before .before .before .before))
-    ∙ asked _ _ 15 _ _ (formed (c .before .before .before))
-    ∙ asked _ _ 19 _ _ (fits (c .before))
-    ∙ none-asked _ _
-    ∙ rw (c .change .ensures))
+    let else = c .before in
+    let rule = else .before .before .before .before .before .before .args .rule in
+    let limits = within (else .before .before .before .before) in
+    rw (c .change .ensures) (sym (apply-done _ rule limits (formed (else .before .before)) (fits else)))
 
 pub apply-spec : {M : Type 1} → statement M
 apply-spec =

@@ -5,9 +5,9 @@ use mathlib.Core.Bool.{_&&_}
 use Prim.Native.Nat.{_+_, _-_, _≤_}
 use native.Mathlib.Omega.{arith}
 use borrow.Author.Needs.{needs}
-use lib.ListN.{length, drop, getD}
-use Rattle.lists.specs.Arrays.{onHead, every}
-use Rattle.lists.proofs.Tails.{tail-step, tail-end, head-at}
+use lib.ListN.{length, drop}
+use Rattle.lists.specs.Arrays.{every}
+use Rattle.lists.proofs.Tails.{every-rest, every-end}
 use Rattle.flow.specs.Tables.{emptyEntry, isEmpty}
 use Rattle.flow.proofs.tables.empty_from.Statement.{statement}
 use Rattle.flow.proofs.tables.empty_from.Tie as tie
@@ -22,29 +22,25 @@ long : (c : tie.Start Inv-loop μ-loop) → length (c .args .t1) ≡ 64
 long c = search needs
 
 -- a turn tests the i-th entry, and leaves those from i + 1 on
-turn : (c : tie.In-loop Inv-loop μ-loop)
-    → let a = c .before .before .args in
-    let i = c .before .loop .i in
-    every isEmpty (drop (a .count) (a .t1))
-    ≡ (isEmpty (getD (a .t1) i emptyEntry) && every isEmpty (drop (i + 1) (a .t1)))
+turn : (c : tie.After-is-empty Inv-loop μ-loop)
+    → let at = c .before .before .before in
+    let a = at .before .args in
+    every isEmpty (drop (a .count) (a .t1)) ≡ (c .is-empty .result && every isEmpty (drop (at .loop .i + 1) (a .t1)))
 turn c =
-    let es = c .before .before .args .t1 in
-    let i = c .before .loop .i in
-    let full = long (c .before .before) in
-    c .before .loop .inv .1
-    ∙ tail-step (onHead isEmpty) es i (omega arith)
-    ∙ rw (head-at isEmpty es i emptyEntry (omega arith))
+    let at = c .before .before .before in
+    let full = long (at .before) in
+    at .loop .inv .1 ∙ every-rest isEmpty _ (at .loop .i) emptyEntry (omega arith) ∙ rw (c .is-empty .ensures)
 
 loop-again : tie.Need-loop-again Inv-loop μ-loop
-loop-again c = (omega arith, turn (c .before .before .before) ∙ rw (sym (c .before .is-empty .ensures) ∙ c .if1 .taken))
+loop-again c = (omega arith, turn (c .before) ∙ rw (c .if1 .taken))
 
 returns : tie.Need-returns Inv-loop μ-loop
-returns c = sym (turn (c .before .before .before) ∙ rw (sym (c .before .is-empty .ensures) ∙ c .if1 .left))
+returns c = sym (turn (c .before) ∙ rw (c .if1 .left))
 
 returns-2 : tie.Need-returns-2 Inv-loop μ-loop
 returns-2 c =
-    let s = c .before .before in
-    sym (c .before .loop .inv .1 ∙ tail-end (onHead isEmpty) (s .args .t1) (c .before .loop .i) (omega (arith, long s)))
+    let at = c .before in
+    sym (at .loop .inv .1 ∙ every-end isEmpty _ (at .loop .i) (omega (arith, long (at .before))))
 
 pub empty-from-spec : {M : Type 1} → statement M
 empty-from-spec =

@@ -1,14 +1,13 @@
 -- `changes_empty` meets its contract. The loop's invariant: the changes from the count on are empty where those from i
 -- on are. Assumes nothing.
-use mathlib.Core.Path.{_≡_, sym, ap, _∙_}
+use mathlib.Core.Path.{_≡_, sym, _∙_}
 use mathlib.Core.Bool.{_&&_}
 use Prim.Native.Nat.{_+_, _-_, _≤_}
 use native.Mathlib.Omega.{arith}
 use borrow.Author.Needs.{needs}
-use lib.ListN.{length, drop, getD}
-use Rattle.lists.specs.Arrays.{everyTail, onHead, every}
-use Rattle.lists.proofs.Stores.{rest}
-use Rattle.lists.proofs.Tails.{tail-end}
+use lib.ListN.{length, drop}
+use Rattle.lists.specs.Arrays.{every}
+use Rattle.lists.proofs.Tails.{every-rest, every-end}
 use Rattle.playbook.specs.Limits.{maxChanges}
 use Rattle.playbook.specs.Books.{emptyChange}
 use Rattle.playbook.specs.Storing.{changeEmpty}
@@ -25,29 +24,26 @@ long : (c : tie.Start Inv-loop μ-loop) → length (c .args .t1) ≡ maxChanges
 long c = search needs
 
 -- a turn tests the i-th change, and leaves those from i + 1 on
-turn : (c : tie.In-loop Inv-loop μ-loop)
-    → let a = c .before .before .args in
-    let i = c .before .loop .i in
+turn : (c : tie.After-change-empty Inv-loop μ-loop)
+    → let at = c .before .before .before in
+    let a = at .before .args in
     every changeEmpty (drop (a .n) (a .t1))
-    ≡ (changeEmpty (getD (a .t1) i emptyChange) && every changeEmpty (drop (i + 1) (a .t1)))
-unfolding everyTail
+    ≡ (c .change-empty .result && every changeEmpty (drop (at .loop .i + 1) (a .t1)))
 turn c =
-    let full = long (c .before .before) in
-    c .before .loop .inv .1
-    ∙ ap (every changeEmpty) (rest (c .before .before .args .t1) (c .before .loop .i) emptyChange (omega arith))
+    let at = c .before .before .before in
+    let full = long (at .before) in
+    at .loop .inv .1 ∙ every-rest changeEmpty _ (at .loop .i) emptyChange (omega arith) ∙ rw (c .change-empty .ensures)
 
 loop-again : tie.Need-loop-again Inv-loop μ-loop
-loop-again c =
-    (omega arith, turn (c .before .before .before) ∙ rw (sym (c .before .change-empty .ensures) ∙ c .if1 .taken))
+loop-again c = (omega arith, turn (c .before) ∙ rw (c .if1 .taken))
 
 returns : tie.Need-returns Inv-loop μ-loop
-returns c = sym (turn (c .before .before .before) ∙ rw (sym (c .before .change-empty .ensures) ∙ c .if1 .left))
+returns c = sym (turn (c .before) ∙ rw (c .if1 .left))
 
 returns-2 : tie.Need-returns-2 Inv-loop μ-loop
 returns-2 c =
-    let s = c .before .before in
-    sym (c .before .loop .inv .1
-    ∙ tail-end (onHead changeEmpty) (s .args .t1) (c .before .loop .i) (omega (arith, long s)))
+    let at = c .before in
+    sym (at .loop .inv .1 ∙ every-end changeEmpty _ (at .loop .i) (omega (arith, long (at .before))))
 
 pub changes-empty-spec : {M : Type 1} → statement M
 changes-empty-spec =

@@ -1,13 +1,13 @@
 -- `changes_ok` meets its contract. The loop's invariant: the first n changes pass where those from i on do.
 -- Assumes nothing.
-use mathlib.Core.Path.{_≡_, sym, ap, _∙_}
+use mathlib.Core.Path.{_≡_, sym, _∙_}
 use mathlib.Core.Bool.{_&&_}
 use Prim.Native.Nat.{_+_, _-_, _≤_}
 use native.Mathlib.Omega.{arith}
 use borrow.Author.Needs.{needs}
-use lib.ListN.{length, take, drop, getD}
-use Rattle.lists.specs.Arrays.{everyTail, every}
-use Rattle.lists.proofs.Stores.{ahead, back}
+use lib.ListN.{length, take, drop}
+use Rattle.lists.specs.Arrays.{every}
+use Rattle.lists.proofs.Tails.{every-ahead, every-back}
 use Rattle.playbook.specs.Limits.{maxChanges}
 use Rattle.playbook.specs.Books.{emptyChange}
 use Rattle.playbook.specs.Storing.{changeOk}
@@ -21,30 +21,27 @@ abbrev μ-loop : tie.MeasureT-loop
 μ-loop n changes i₀ i = n - i
 
 -- a turn tests the i-th change, and leaves those from i + 1 on
-turn : (c : tie.In-loop Inv-loop μ-loop)
-    → let a = c .before .before .args in
-    let i = c .before .loop .i in
-    let cs = take (a .n) (a .t1) in
-    every changeOk cs ≡ (changeOk (getD (a .t1) i emptyChange) && every changeOk (drop (i + 1) cs))
-unfolding everyTail
+turn : (c : tie.After-change-ok Inv-loop μ-loop)
+    → let at = c .before .before .before in
+    let cs = take (at .before .args .n) (at .before .args .t1) in
+    every changeOk cs ≡ (c .change-ok .result && every changeOk (drop (at .loop .i + 1) cs))
 turn c =
-    let a = c .before .before .args in
+    let at = c .before .before .before in
+    let a = at .before .args in
     let long : length (a .t1) ≡ maxChanges = search needs in
-    c .before .loop .inv .1
-    ∙ ap (every changeOk) (ahead (a .t1) (a .n) (c .before .loop .i) emptyChange (omega arith) (omega arith))
+    at .loop .inv .1 ∙ every-ahead _ (a .t1) (a .n) (at .loop .i) emptyChange (omega arith) (omega arith)
+    ∙ rw (c .change-ok .ensures)
 
 loop-again : tie.Need-loop-again Inv-loop μ-loop
-loop-again c =
-    (omega arith, turn (c .before .before .before) ∙ rw (sym (c .before .change-ok .ensures) ∙ c .if1 .taken))
+loop-again c = (omega arith, turn (c .before) ∙ rw (c .if1 .taken))
 
 returns : tie.Need-returns Inv-loop μ-loop
-returns c = sym (turn (c .before .before .before) ∙ rw (sym (c .before .change-ok .ensures) ∙ c .if1 .left))
+returns c = sym (turn (c .before) ∙ rw (c .if1 .left))
 
 returns-2 : tie.Need-returns-2 Inv-loop μ-loop
-unfolding everyTail
 returns-2 c =
-    let a = c .before .before .args in
-    sym (c .before .loop .inv .1 ∙ ap (every changeOk) (back (a .t1) (a .n) (c .before .loop .i) (omega arith)))
+    let at = c .before in
+    sym (at .loop .inv .1 ∙ every-back _ _ (at .before .args .n) (at .loop .i) (omega arith))
 
 pub changes-ok-spec : {M : Type 1} → statement M
 changes-ok-spec =

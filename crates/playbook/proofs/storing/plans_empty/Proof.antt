@@ -1,14 +1,13 @@
 -- `plans_empty` meets its contract. The loop's invariant: the plans from the count on are empty where those from i on
 -- are. Assumes nothing.
-use mathlib.Core.Path.{_≡_, sym, ap, _∙_}
+use mathlib.Core.Path.{_≡_, sym, _∙_}
 use mathlib.Core.Bool.{_&&_}
 use Prim.Native.Nat.{_+_, _-_, _≤_}
 use native.Mathlib.Omega.{arith}
 use borrow.Author.Needs.{needs}
-use lib.ListN.{length, drop, getD}
-use Rattle.lists.specs.Arrays.{everyTail, onHead, every}
-use Rattle.lists.proofs.Stores.{rest}
-use Rattle.lists.proofs.Tails.{tail-end}
+use lib.ListN.{length, drop}
+use Rattle.lists.specs.Arrays.{every}
+use Rattle.lists.proofs.Tails.{every-rest, every-end}
 use Rattle.playbook.specs.Limits.{maxPlans}
 use Rattle.playbook.specs.Books.{emptyPlan}
 use Rattle.playbook.specs.Storing.{planEmpty}
@@ -25,29 +24,25 @@ long : (c : tie.Start Inv-loop μ-loop) → length (c .args .t1) ≡ maxPlans
 long c = search needs
 
 -- a turn tests the i-th plan, and leaves those from i + 1 on
-turn : (c : tie.In-loop Inv-loop μ-loop)
-    → let a = c .before .before .args in
-    let i = c .before .loop .i in
-    every planEmpty (drop (a .n) (a .t1))
-    ≡ (planEmpty (getD (a .t1) i emptyPlan) && every planEmpty (drop (i + 1) (a .t1)))
-unfolding everyTail
+turn : (c : tie.After-plan-empty Inv-loop μ-loop)
+    → let at = c .before .before .before in
+    let a = at .before .args in
+    every planEmpty (drop (a .n) (a .t1)) ≡ (c .plan-empty .result && every planEmpty (drop (at .loop .i + 1) (a .t1)))
 turn c =
-    let full = long (c .before .before) in
-    c .before .loop .inv .1
-    ∙ ap (every planEmpty) (rest (c .before .before .args .t1) (c .before .loop .i) emptyPlan (omega arith))
+    let at = c .before .before .before in
+    let full = long (at .before) in
+    at .loop .inv .1 ∙ every-rest planEmpty _ (at .loop .i) emptyPlan (omega arith) ∙ rw (c .plan-empty .ensures)
 
 loop-again : tie.Need-loop-again Inv-loop μ-loop
-loop-again c =
-    (omega arith, turn (c .before .before .before) ∙ rw (sym (c .before .plan-empty .ensures) ∙ c .if1 .taken))
+loop-again c = (omega arith, turn (c .before) ∙ rw (c .if1 .taken))
 
 returns : tie.Need-returns Inv-loop μ-loop
-returns c = sym (turn (c .before .before .before) ∙ rw (sym (c .before .plan-empty .ensures) ∙ c .if1 .left))
+returns c = sym (turn (c .before) ∙ rw (c .if1 .left))
 
 returns-2 : tie.Need-returns-2 Inv-loop μ-loop
 returns-2 c =
-    let s = c .before .before in
-    sym (c .before .loop .inv .1
-    ∙ tail-end (onHead planEmpty) (s .args .t1) (c .before .loop .i) (omega (arith, long s)))
+    let at = c .before in
+    sym (at .loop .inv .1 ∙ every-end planEmpty _ (at .loop .i) (omega (arith, long (at .before))))
 
 pub plans-empty-spec : {M : Type 1} → statement M
 plans-empty-spec =

@@ -5,12 +5,12 @@ use native.Mathlib.Omega.{arith}
 use borrow.Author.Needs.{needs}
 use lib.ListN.{length}
 use Rattle.answer.specs.Ask.{firstNo}
-use Rattle.answer.proofs.Asked.{Numbered, all-yes}
+use Rattle.answer.proofs.Asked.{all-yes, stopped}
 use Rattle.message.specs.declared.Message.{Message}
 use Rattle.switch.specs.States.{stateQuestions}
 use Rattle.switch.specs.Receiving.{arrived, receivedBy}
 use Rattle.switch.specs.declared.Reply.{Reply}
-use Rattle.switch.proofs.Steps.{stopped, state-passed}
+use Rattle.switch.proofs.Steps.{state-passed}
 use Rattle.switch.proofs.receiving.receive.Statement.{statement}
 use Rattle.switch.proofs.receiving.receive.Tie as tie
 
@@ -33,7 +33,7 @@ read-as : (c : tie.After-read) {m : Message} → c .read .result ≡ m
     → let s = c .before .before .before .before .before in
     let a = s .args in
     arrives s m ≡ receivedBy (a .s) (a .keys .now) (a .bytes .now)
-unfolding receivedBy Numbered
+unfolding receivedBy
 read-as c e =
     let s = c .before .before .before .before .before in
     sym (all-yes _ _ _ refl (ready (c .before)) ∙ ap (arrives s) (sym (c .read .ensures) ∙ e))

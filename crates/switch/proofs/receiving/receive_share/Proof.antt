@@ -4,11 +4,9 @@ use mathlib.Core.Path.{_≡_, refl, sym, _∙_}
 use native.Mathlib.Omega.{arith}
 use borrow.Author.Needs.{needs}
 use borrow.Author.Tests.{ltb-true}
-use lib.Dec.{ltb}
 use Rattle.answer.specs.Ask.{firstNo}
-use Rattle.answer.proofs.Asked.{Numbered, all-yes, passed}
+use Rattle.answer.proofs.Asked.{all-yes, stopped, answered}
 use Rattle.switch.specs.Receiving.{senderQuestions}
-use Rattle.switch.proofs.Steps.{stopped}
 use Rattle.switch.proofs.receiving.receive_share.Statement.{statement}
 use Rattle.switch.proofs.receiving.receive_share.Tie as tie
 
@@ -24,11 +22,9 @@ known c = sym (c .before .sender-question .ensures) ∙ omega arith
 take-share-requires : tie.Need-take-share-requires
 take-share-requires c κs =
     let s = c .before .before .before .before in
-    let a = s .args in
-    (s .pre .0, ltb-true _ _ (passed 11 (ltb (a .controller) (a .s .n)) _ (known c) .0))
+    (s .pre .0, ltb-true _ _ (answered _ refl (known c) 12))
 
 returns-2 : tie.Need-returns-2
-unfolding Numbered
 returns-2 c = c .take-share .ensures ∙ sym (all-yes _ _ _ refl (known (c .before)))
 
 pub receive-share-spec : {M : Type 1} → statement M

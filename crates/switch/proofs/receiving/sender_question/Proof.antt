@@ -10,8 +10,9 @@ use Rattle.answer.specs.Ask.{Question}
 use Rattle.answer.proofs.Asked.{none-asked, refused, asked}
 use Rattle.message.specs.Keys.{keyAt}
 use Rattle.message.specs.Reading.{isSealed}
+use Rattle.message.proofs.Lent.{key-lent}
 use Rattle.switch.specs.Receiving.{senderQuestions}
-use Rattle.switch.proofs.Steps.{Past, key-lent}
+use Rattle.switch.proofs.Steps.{Past}
 use Rattle.switch.proofs.receiving.sender_question.Statement.{statement}
 use Rattle.switch.proofs.receiving.sender_question.Tie as tie
 

@@ -4,10 +4,9 @@ use mathlib.Core.Path.{_≡_, refl, sym, _∙_}
 use native.Mathlib.Omega.{arith}
 use borrow.Author.Needs.{needs}
 use Rattle.answer.specs.Ask.{firstNo}
-use Rattle.answer.proofs.Asked.{Numbered, all-yes}
+use Rattle.answer.proofs.Asked.{all-yes, stopped}
 use Rattle.switch.specs.Shares.{slotOf, shareQuestions, taken, takeShare}
 use Rattle.switch.proofs.Passing.{passes}
-use Rattle.switch.proofs.Steps.{stopped}
 use Rattle.switch.proofs.Within.{within}
 use Rattle.switch.proofs.shares.take_share.Statement.{statement}
 use Rattle.switch.proofs.shares.take_share.Tie as tie
@@ -28,7 +27,7 @@ passed c = sym (c .before .share-question .ensures) ∙ omega arith
 past : (c : tie.Else1)
     → let a = c .before .before .before .args in
     takeShare (a .t1) (a .controller) (a .number) (a .rule) ≡ taken (a .t1) (a .controller) (a .number) (a .rule)
-unfolding takeShare Numbered
+unfolding takeShare
 past c = all-yes _ _ _ refl (passed c)
 
 returns-2 : tie.Need-returns-2

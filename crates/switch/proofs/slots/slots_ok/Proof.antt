@@ -1,13 +1,13 @@
 -- `slots_ok` meets its contract. The loop's invariant: the test of the first n slots is that of those from i on.
 -- Assumes nothing.
-use mathlib.Core.Path.{_≡_, sym, ap, _∙_}
+use mathlib.Core.Path.{_≡_, sym, _∙_}
 use mathlib.Core.Bool.{_&&_}
 use Prim.Native.Nat.{_+_, _-_, _≤_}
 use native.Mathlib.Omega.{arith}
 use borrow.Author.Needs.{needs}
-use lib.ListN.{length, take, drop, getD}
-use Rattle.lists.specs.Arrays.{everyTail, every}
-use Rattle.lists.proofs.Stores.{ahead, back}
+use lib.ListN.{length, take, drop}
+use Rattle.lists.specs.Arrays.{every}
+use Rattle.lists.proofs.Tails.{every-ahead, every-back}
 use Rattle.switch.specs.Slots.{emptySlot, slotOk}
 use Rattle.switch.proofs.slots.slots_ok.Statement.{statement}
 use Rattle.switch.proofs.slots.slots_ok.Tie as tie
@@ -20,31 +20,28 @@ abbrev μ-loop : tie.MeasureT-loop
 μ-loop n last slots i₀ i = n - i
 
 -- a turn tests the i-th slot, and leaves those from i + 1 on
-turn : (c : tie.In-loop Inv-loop μ-loop)
-    → let a = c .before .before .args in
-    let i = c .before .loop .i in
-    every (slotOk (a .last)) (take (a .n) (a .t1))
-    ≡ (slotOk (a .last) (getD (a .t1) i emptySlot) && every (slotOk (a .last)) (drop (i + 1) (take (a .n) (a .t1))))
-unfolding everyTail
+turn : (c : tie.After-slot-ok Inv-loop μ-loop)
+    → let at = c .before .before .before in
+    let a = at .before .args in
+    let slots = take (a .n) (a .t1) in
+    every (slotOk (a .last)) slots ≡ (c .slot-ok .result && every (slotOk (a .last)) (drop (at .loop .i + 1) slots))
 turn c =
-    let a = c .before .before .args in
-    let at = c .before .loop in
+    let at = c .before .before .before in
+    let a = at .before .args in
     let long : length (a .t1) ≡ 16 = search needs in
-    at .inv .1
-    ∙ ap (every (slotOk (a .last))) (ahead (a .t1) (a .n) (at .i) emptySlot (omega arith) (omega arith))
+    at .loop .inv .1 ∙ every-ahead _ (a .t1) (a .n) (at .loop .i) emptySlot (omega arith) (omega arith)
+    ∙ rw (c .slot-ok .ensures)
 
 loop-again : tie.Need-loop-again Inv-loop μ-loop
-loop-again c = (omega arith, turn (c .before .before .before) ∙ rw (sym (c .before .slot-ok .ensures) ∙ c .if1 .taken))
+loop-again c = (omega arith, turn (c .before) ∙ rw (c .if1 .taken))
 
 returns : tie.Need-returns Inv-loop μ-loop
-returns c = sym (turn (c .before .before .before) ∙ rw (sym (c .before .slot-ok .ensures) ∙ c .if1 .left))
+returns c = sym (turn (c .before) ∙ rw (c .if1 .left))
 
 returns-2 : tie.Need-returns-2 Inv-loop μ-loop
-unfolding everyTail
 returns-2 c =
-    let a = c .before .before .args in
-    let at = c .before .loop in
-    sym (at .inv .1 ∙ ap (every (slotOk (a .last))) (back (a .t1) (a .n) (at .i) (omega arith)))
+    let at = c .before in
+    sym (at .loop .inv .1 ∙ every-back _ _ (at .before .args .n) (at .loop .i) (omega arith))
 
 pub slots-ok-spec : {M : Type 1} → statement M
 slots-ok-spec =

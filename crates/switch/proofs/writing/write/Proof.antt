@@ -2,39 +2,31 @@
 -- the controller's key as it is lent, refuses nothing. Assumes nothing.
 use mathlib.Core.Path.{_≡_, sym, ap, _∙_}
 use mathlib.Core.Bool.{true}
-use mathlib.Core.List.{List, [], _∷_}
+use mathlib.Core.List.{List}
 use Prim.Native.Nat.{ℕ, _+_, _*_}
 use native.Mathlib.Omega.{arith}
 use borrow.Author.Needs.{needs}
 use borrow.Author.Tests.{not-true, not-false, lt-ltb, le-ltb, eq-eqb, leb-true}
-use lib.Dec.{ltb}
 use lib.ListN.{length, drop}
-use Rattle.answer.specs.Ask.{Question, reply}
-use Rattle.answer.proofs.Asked.{none-asked, refused, asked}
+use Rattle.answer.specs.Ask.{reply}
+use Rattle.answer.proofs.Asked.{none-asked, refused, asked, stopped}
 use Rattle.message.specs.Keys.{keyLength, keyAt}
 use Rattle.message.specs.Writing.{encode, lengthOf, roomAt, placed, writeTo}
+use Rattle.message.proofs.Lent.{key-lent}
 use Rattle.message.proofs.Written.{all-written}
 use Rattle.switch.specs.States.{unchanged, switchOk, stateQuestions}
-use Rattle.switch.specs.Writing.{written}
-use Rattle.switch.proofs.Steps.{stopped, state-passed, key-lent}
+use Rattle.switch.specs.Writing.{writeQuestions, written}
+use Rattle.switch.proofs.Steps.{state-passed}
 use Rattle.switch.proofs.writing.write.Statement.{statement}
 use Rattle.switch.proofs.writing.write.Tie as tie
 
--- the questions after 20 and 21
-abbrev questions : tie.Start → List Question
-questions c =
-    let a = c .args in
-    (12, ltb (a .controller) (a .s .n))
-    ∷ (25, roomAt (length (a .frame .now)) (a .at) (lengthOf (a .m)))
-    ∷ (26, a .there)
-    ∷ []
-
--- questions 20 and 21 and the first n of these have been answered yes
+-- the first n questions have been answered yes
 abbrev Past : tie.Start → ℕ → Type 0
 Past c n =
     let a = c .args in
+    let qs = writeQuestions (a .s) (a .keys .now) (a .controller) (a .m) (a .there) (a .frame .now) (a .at) in
     written (a .s) (a .keys .now) (a .controller) (a .m) (a .there) (a .frame .now) (a .at)
-    ≡ reply (drop n (questions c)) (λ k. (unchanged (a .s) k, a .frame .now))
+    ≡ reply (drop n qs) (λ k. (unchanged (a .s) k, a .frame .now))
     (unchanged (a .s) 0, placed (encode (keyAt (a .keys .now) (a .controller)) (a .m)) (a .frame .now) (a .at))
 
 ready : (c : tie.Else1)
@@ -42,11 +34,11 @@ ready : (c : tie.Else1)
     (switchOk (a .s) ≡ true) × (length (a .keys .now) ≡ keyLength * a .s .n)
 ready c = state-passed _ _ (sym (c .before .state-question .ensures) ∙ omega arith)
 
-within : (c : tie.Else1) → Past (c .before .before .before .before) 0
+within : (c : tie.Else1) → Past (c .before .before .before .before) 2
 unfolding written
 within c = asked _ _ 20 _ _ (ready c .0) ∙ asked _ _ 21 _ _ (eq-eqb _ _ (ready c .1))
 
-known : (c : tie.Else2) → Past (c .before .before .before .before .before .before) 1
+known : (c : tie.Else2) → Past (c .before .before .before .before .before .before) 3
 known c =
     let a = c .before .before .before .before .before .before .args in
     within (c .before .before) ∙ asked _ _ 12 _ _ (lt-ltb (a .controller) (a .s .n) (omega arith))
@@ -64,7 +56,7 @@ fits : (c : tie.Else3)
     roomAt (length (a .frame .now)) (a .at) (lengthOf (a .m)) ≡ true
 fits c = room (c .before) ∙ not-false _ (c .if3 .left)
 
-fitting : (c : tie.Else3) → Past (c .before .before .before .before .before .before .before .before .before) 2
+fitting : (c : tie.Else3) → Past (c .before .before .before .before .before .before .before .before .before) 4
 fitting c = known (c .before .before .before) ∙ asked _ _ 25 _ _ (fits c)
 
 returns : tie.Need-returns
@@ -95,12 +87,11 @@ returns-5 c =
     let there = call .before .before .before in
     let s = there .before .before .before .before .before .before .before .before .before .before in
     let a = s .args in
-    let key = keyAt (a .keys .now) (a .controller) in
     let fit = leb-true (a .at + lengthOf (a .m)) (length (a .frame .now)) (fits (there .before)) in
     ap (λ (x : ℕ × List ℕ). (unchanged (a .s) (x .0), x .1))
     (call .write .ensures
     ∙ ap (λ (k : List ℕ). writeTo k (a .m) (a .frame .now) (a .at)) (key-lent (a .keys .now) (a .controller))
-    ∙ all-written key (a .m) (a .frame .now) (a .at) (s .pre .0) (s .pre .1) fit)
+    ∙ all-written _ (a .m) (a .frame .now) (a .at) (s .pre .0) (s .pre .1) fit)
     ∙ sym (fitting (there .before) ∙ asked _ _ 26 _ _ (not-false _ (there .if4 .left)) ∙ none-asked _ _)
 
 pub write-spec : {M : Type 1} → statement M
