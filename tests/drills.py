@@ -200,6 +200,10 @@ class Drill:
     def share(self, controller, number, rule):
         return self.receive(share(controller, self.switch.id, number, rule))
 
+    def shares(self, *shares):
+        for controller, number, rule in shares:
+            self.share(controller, number, rule)
+
     def raise_event(self, cause):
         self.case(b"R", bytes([cause]))
         return self.replied("raised", self.switch.raise_event(cause))
@@ -336,32 +340,21 @@ def tables(d):
     """The 64th entry is placed, a 65th new one gets 19, an old one is set anew, an absent one is removed."""
     d.start(3, 1)
     d.set_entries(full(63))
-    d.share(0, 1, (0x7F000000, 9, 5))
-    d.share(0, 2, (0x7F800000, 9, 6))
-    d.share(0, 2, (0x7F000000, 9, 7))
-    d.share(0, 3, (0x01000000, 8, 8))
-    d.share(0, 4, (0x7F800000, 9, 0))
+    placed, other, old = (0x7F000000, 9), (0x7F800000, 9), (0x01000000, 8)
+    d.shares((0, 1, placed + (5,)), (0, 2, other + (6,)), (0, 2, placed + (7,)))
+    d.shares((0, 3, old + (8,)), (0, 4, other + (0,)))
     if d.long:
-        d.share(0, 5, (0x01000000, 8, 0))
-        d.share(0, 6, (0x7F800000, 9, 6))
-        d.share(0, LARGEST, (0x7F800000, 9, 0))
-        d.share(0, LARGEST, (0x7F800000, 9, 0))
+        d.shares((0, 5, old + (0,)), (0, 6, other + (6,)))
+        d.shares((0, LARGEST, other + (0,)), (0, LARGEST, other + (0,)))
     # a share held while there was room, and repeated when there is none
     d.start(3, 4)
     d.set_entries(full(63))
-    d.share(0, 9, (0xE0000000, 8, 1))
-    d.share(0, 9, (0xE0000000, 8, 1))
-    d.share(1, 8, (0xE1000000, 8, 2))
-    d.share(2, 8, (0xE1000000, 8, 2))
-    d.share(0, 9, (0xE0000000, 8, 1))
+    held, sooner, removal = (0xE0000000, 8, 1), (0xE1000000, 8, 2), (0xE1000000, 8, 0)
+    d.shares((0, 9, held), (0, 9, held), (1, 8, sooner), (2, 8, sooner), (0, 9, held))
     for address in (0xE0000000, 0xE1000000, 0x01FFFFFF, 0x00FFFFFF, 0xFFFFFFFF):
         d.look_up(address)
     if d.long:
-        d.share(1, 9, (0xE0000000, 8, 1))
-        d.share(1, 9, (0xE1000000, 8, 0))
-        d.share(3, 9, (0xE1000000, 8, 0))
-        d.share(0, 9, (0xE0000000, 8, 1))
-        d.share(0, 10, (0xE0000000, 8, 1))
+        d.shares((1, 9, held), (1, 9, removal), (3, 9, removal), (0, 9, held), (0, 10, held))
 
 
 def lookups(d):

@@ -73,7 +73,7 @@ emptied-low number slot h = rw (le-leb _ _ h)
 emptied-high : (number : ℕ) (slot : Slot) → number < slot .number → emptied number slot ≡ slot
 emptied-high number slot h = rw (lt-leb _ _ h)
 
-emptied-at : (number : ℕ) (slots : List Slot) (i : ℕ)
+pub emptied-at : (number : ℕ) (slots : List Slot) (i : ℕ)
     → getD (map (emptied number) slots) i emptySlot ≡ emptied number (getD slots i emptySlot)
 emptied-at number slots i =
     ap (getD (map (emptied number) slots) i) (sym (emptied-low number emptySlot (omega arith)))

@@ -1,17 +1,17 @@
 -- What a slot holds was sent. After every list of calls from a setup each slot is empty, or its number and rule came in
 -- a share from its controller, for this switch, with the tag of that controller's key. So a rule is applied only where
 -- a quorum of different controllers each sent it, tagged with its own key. Assumes nothing.
-use mathlib.Core.Path.{_≡_, refl, sym, ap, _∙_}
+use mathlib.Core.Path.{_≡_, refl}
 use mathlib.Core.Bool.{true}
-use mathlib.Core.List.{List, [], _∷_, _++_, map, List·Memᴰ, List·Memᴰ·head, List·Memᴰ·tail}
+use mathlib.Core.List.{List, [], _∷_, _++_, List·Memᴰ, List·Memᴰ·head, List·Memᴰ·tail}
 use mathlib.Core.List.{Memᴰ·append-left, Memᴰ·append-right}
 use Prim.Native.Nat.{ℕ, zero, suc, _≤_, _<_}
 use native.Mathlib.Omega.{arith}
 use lib.Dec.{leb, eqb}
-use lib.ListN.{length, getD, replicate, List·getD-map}
+use lib.ListN.{length, getD, replicate}
 use lib.Seq.{getD-set-same, getD-set-other, set-out}
 use Rattle.answer.proofs.Asked.{reply-keeps}
-use Rattle.answer.proofs.Bools.{by-bool, by-eq, by-le, pick-same}
+use Rattle.answer.proofs.Bools.{by-bool, by-eq, by-le}
 use Rattle.lists.specs.Kinds.{among, different}
 use Rattle.flow.specs.Changes.{changed}
 use Rattle.flow.specs.declared.Rule.{Rule}
@@ -19,7 +19,7 @@ use Rattle.message.specs.Keys.{keyAt}
 use Rattle.message.specs.Reading.{decode, isSealed}
 use Rattle.message.specs.declared.End.the-variants as ends
 use Rattle.message.specs.declared.Message.the-variants.{Share}
-use Rattle.switch.specs.Slots.{quorumOf, slotFor, emptySlot, emptied, controllers}
+use Rattle.switch.specs.Slots.{quorumOf, slotFor, emptySlot, controllers}
 use Rattle.switch.specs.States.{setupOf}
 use Rattle.switch.specs.Shares.{slotOf, stored}
 use Rattle.switch.specs.Receiving.{receivedBy}
@@ -30,7 +30,7 @@ use Rattle.switch.specs.declared.Reply.{Reply}
 use Rattle.switch.specs.declared.Switch.{Switch}
 use Rattle.switch.proofs.Taken.{Arrives, Received, refused, repeated, held, made, received}
 use Rattle.switch.proofs.Sent.{written-state}
-use Rattle.switch.proofs.Effects.{answered-1}
+use Rattle.switch.proofs.Effects.{emptied-at, answered-1}
 use Rattle.switch.proofs.Agreement.{agreement}
 
 -- among the calls, bytes were received that are a share of this number and rule, from controller c for switch id, with
@@ -89,8 +89,7 @@ module _ (keys : List ℕ) (calls : List Call) where
     reception-came there (held a y few) = stored-came there a
     reception-came there (made {c} {number} {rule} a y enough) = λ i.
         let slots = stored s c number rule .slots in
-        let at = ap (getD (map (emptied number) slots) i) (sym (pick-same (leb 0 number) emptySlot))
-        ∙ List·getD-map (emptied number) slots i emptySlot in
+        let at = emptied-at number slots i in
         by-bool (leb (getD slots i emptySlot .number) number)
         (λ e. rw (at, e) (λ some. absurd (omega arith))) (λ e. rw (at, e) (stored-came there a i))
 

@@ -24,8 +24,8 @@ abbrev pub arrived : Switch → List ℕ → List ℕ → Message → Reply
 arrived s keys bytes (Share c to number rule) =
     reply (senderQuestions s keys bytes c to) (unchanged s) (takeShare s c number rule)
 arrived s keys bytes (Refused k) = unchanged s k
-arrived s keys bytes (Event to c serial cause) = unchanged s 11
-arrived s keys bytes (Acknowledgement to c number) = unchanged s 11
+arrived s keys bytes (Event from to serial cause) = unchanged s 11
+arrived s keys bytes (Acknowledgement from to number) = unchanged s 11
 
 unfoldable pub receivedBy : Switch → List ℕ → List ℕ → Reply
 receivedBy s keys bytes =

@@ -1,16 +1,16 @@
 -- Messages written by a switch at an offset of a frame (document 01, "Switch end" and questions 12, 25 and 26).
 -- Assumes nothing.
-use Prim.Native.Nat.{ℕ, _*_}
+use Prim.Native.Nat.{ℕ}
 use mathlib.Core.Bool.{Bool, true}
-use mathlib.Core.List.{List, [], _∷_}
+use mathlib.Core.List.{List, [], _∷_, _++_}
 use lib.ListN.{length}
-use lib.Dec.{ltb, eqb}
+use lib.Dec.{ltb}
 use Rattle.answer.specs.Ask.{Question, reply}
-use Rattle.message.specs.Keys.{keyLength, keyAt}
+use Rattle.message.specs.Keys.{keyAt}
 use Rattle.message.specs.Writing.{encode, lengthOf, roomAt, placed}
 use Rattle.message.specs.declared.Message.{Message}
 use Rattle.message.specs.declared.Message.the-variants.{Event, Acknowledgement}
-use Rattle.switch.specs.States.{unchanged, switchOk}
+use Rattle.switch.specs.States.{unchanged, stateQuestions}
 use Rattle.switch.specs.declared.Reply.{Reply}
 use Rattle.switch.specs.declared.Switch.{Switch}
 
@@ -21,12 +21,11 @@ eventFor s c = Event (s .id) c (s .raised .serial) (s .raised .cause)
 abbrev pub acknowledgementFor : Switch → ℕ → Message
 acknowledgementFor s c = Acknowledgement (s .id) c (s .last)
 
--- the questions of a message for a controller, and whether there is one to send
+-- the questions of a message for a controller: after 20 and 21 its receiver, its room, and whether there is one to send
 abbrev pub writeQuestions : Switch → List ℕ → ℕ → Message → Bool → List ℕ → ℕ → List Question
 writeQuestions s keys c m there frame at =
-    (20, switchOk s)
-    ∷ (21, eqb (length keys) (keyLength * s .n))
-    ∷ (12, ltb c (s .n))
+    stateQuestions s (length keys)
+    ++ (12, ltb c (s .n))
     ∷ (25, roomAt (length frame) at (lengthOf m))
     ∷ (26, there)
     ∷ []
