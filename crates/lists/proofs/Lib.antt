@@ -2,6 +2,7 @@
 pub mod Stores
 pub mod Tails
 pub mod Counts
+pub mod Passing
 pub mod Padding
 pub mod Members
 pub mod Pigeonhole

@@ -1,5 +1,5 @@
 -- An array as a list: what a loop that stores from the front has made so far, what is left before a loop that reads,
--- an element put in and one taken out, and parts of a map. Assumes nothing.
+-- an element put in and one taken out, parts of a map, and a greater number stored. Assumes nothing.
 use mathlib.Core.Path.{_≡_, refl, sym, ap, _∙_}
 use mathlib.Core.List.{List, [], _∷_, _++_, append-assoc, append-nil, map}
 use Prim.Native.Nat.{ℕ, zero, suc, _+_, _-_, _≤_, _<_}
@@ -7,7 +7,7 @@ use native.Mathlib.Numerals.{add-one}
 use native.Mathlib.Nat.{le-of-suc-le-suc, le-of-lt, not-suc-le-zero}
 use native.Mathlib.Omega.{arith}
 use lib.ListN.{length, take, drop, getD, set, length-take, length-drop, drop-of-length-le, length-map}
-use lib.Seq.{drop-cons, take-suc, set-at, length-take-le, take-nil, getD-take, take-all}
+use lib.Seq.{drop-cons, take-suc, set-at, length-take-le, take-nil, getD-take, take-all, take-take}
 use Rattle.lists.specs.Arrays.{put, del}
 
 -- what owning a struct with an array of structs tells of the array's length
@@ -118,3 +118,21 @@ module _ {A B : Type 0} (f : A → B) where
   drop-map zero l = refl
   drop-map (suc n) [] = refl
   drop-map (suc n) (x ∷ l) = drop-map n l
+
+-- one element more, and a part that stands within the first m elements
+pub take-next : {A : Type 0} (l : List A) (i : ℕ) (z : A) → i < length l → take (i + 1) l ≡ take i l ++ getD l i z ∷ []
+take-next l i z h = rw add-one (take-suc l i z h)
+
+pub part-within : {A : Type 0} (k n m : ℕ) (l : List A) → n + k ≤ m → take k (drop n (take m l)) ≡ take k (drop n l)
+part-within k zero m l h = take-take k m l (omega arith)
+part-within k (suc n) zero l h = absurd (omega arith)
+part-within k (suc n) (suc m) [] h = refl
+part-within k (suc n) (suc m) (x ∷ l) h = part-within k n m l (omega arith)
+
+-- no number of a list is lower once a place has a number that is not
+pub set-grows : (l : List ℕ) (s k i : ℕ) → getD l s 0 ≤ k → getD l i 0 ≤ getD (set l s k) i 0
+set-grows [] s k i h = omega arith
+set-grows (x ∷ l) zero k zero h = h
+set-grows (x ∷ l) zero k (suc i) h = omega arith
+set-grows (x ∷ l) (suc s) k zero h = omega arith
+set-grows (x ∷ l) (suc s) k (suc i) h = set-grows l s k i h

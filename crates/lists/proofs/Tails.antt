@@ -2,12 +2,12 @@
 -- say of each element and of parts of the list. Assumes nothing.
 use mathlib.Core.Path.{_≡_, refl, sym, ap, _∙_}
 use mathlib.Core.List.{List, [], _∷_, _++_, map}
-use mathlib.Core.Bool.{Bool, true, _&&_, and-true, and-assoc}
+use mathlib.Core.Bool.{Bool, true, false, _&&_, and-true, and-assoc}
 use Prim.Native.Nat.{ℕ, zero, suc, _+_, _≤_, _<_}
 use native.Mathlib.Numerals.{add-one}
 use native.Mathlib.Omega.{arith}
 use lib.ListN.{length, take, drop, getD, set, replicate, drop-of-length-le}
-use Rattle.answer.proofs.Bools.{and-join, and-parts}
+use Rattle.answer.proofs.Bools.{by-bool, tf, and-join, and-parts}
 use Rattle.lists.specs.Arrays.{everyTail, onHead, every}
 use Rattle.lists.proofs.Stores.{rest, ahead, back}
 
@@ -83,7 +83,21 @@ module _ {A : Type 0} (f : A → Bool) where
   every-drop (suc n) [] h = refl
   every-drop (suc n) (x ∷ l) h = every-drop n l (and-parts (f x) (every f l) h .1)
 
-  -- one more at the end
+  -- where it does not hold of every element, some place fails
+  pub every-fails : (l : List A) (z : A) → every f l ≡ false → (i : ℕ) × (i < length l) × (f (getD l i z) ≡ false)
+  unfolding everyTail
+  every-fails [] z h = tf refl h
+  every-fails (x ∷ l) z h =
+      by-bool (f x)
+      (λ e. let r = every-fails l z (rw e at h) in (suc (r .0), omega (arith, r .1), r .2))
+      (λ e. (0, omega arith, e))
+
+  -- two lists, and one more at the end
+  pub every-append : (l m : List A) → every f (l ++ m) ≡ (every f l && every f m)
+  unfolding everyTail
+  every-append [] m = refl
+  every-append (x ∷ l) m = rw (every-append l m) (sym (and-assoc (f x) (every f l) (every f m)))
+
   pub every-snoc : (l : List A) (x : A) → every f (l ++ x ∷ []) ≡ (every f l && f x)
   unfolding everyTail
   every-snoc [] x = and-true (f x)
@@ -105,3 +119,13 @@ module _ {A : Type 0} (f : A → Bool) where
   every-map g m p (x ∷ l) h =
       let t = and-parts (g x) (every g l) h in
       and-join (f (m x)) _ (p x (t .0)) (every-map g m p l (t .1))
+
+-- two tests of every element give a third
+pub every-both : {A : Type 0} (f g h : A → Bool) → ((x : A) → f x ≡ true → g x ≡ true → h x ≡ true) → (l : List A)
+    → every f l ≡ true → every g l ≡ true → every h l ≡ true
+unfolding everyTail
+every-both f g h both [] p q = refl
+every-both f g h both (x ∷ l) p q =
+    let a = and-parts (f x) (every f l) p in
+    let b = and-parts (g x) (every g l) q in
+    and-join (h x) _ (both x (a .0) (b .0)) (every-both f g h both l (a .1) (b .1))

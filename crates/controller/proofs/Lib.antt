@@ -1,0 +1,15 @@
+-- Laws of the controller end. Places, Scanning, Shares and Steps are for this crate's own functions.
+pub mod Within
+pub mod Waiting
+pub mod Staying
+pub mod Taken
+pub mod Deciding
+pub mod Numbering
+pub mod Moves
+pub mod Kept
+pub mod Effects
+pub mod Sent
+mod Places
+mod Scanning
+mod Shares
+mod Steps

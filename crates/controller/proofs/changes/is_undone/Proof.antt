@@ -1,0 +1,17 @@
+-- `is_undone` meets its contract: past the last place a read gives 0. Assumes nothing.
+use mathlib.Core.Path.{_≡_}
+use native.Mathlib.Omega.{arith}
+use borrow.Author.Needs.{needs}
+use lib.ListN.{length, List·getD-eq-default}
+use Rattle.controller.proofs.changes.is_undone.Statement.{statement}
+use Rattle.controller.proofs.changes.is_undone.Tie as tie
+
+returns-2 : tie.Need-returns-2
+returns-2 c =
+    let a = c .before .before .before .args in
+    let long : length (a .t1) ≡ 16 = search needs in
+    rw (List·getD-eq-default (a .t1) 0 {n = a .u .switch} (omega arith))
+
+pub is-undone-spec : {M : Type 1} → statement M
+is-undone-spec =
+    tie.close (tie.spec (λ c. search needs) (λ c. search needs) (λ c. search needs) (λ c. search needs) returns-2)

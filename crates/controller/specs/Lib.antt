@@ -1,0 +1,10 @@
+-- The controller end: undone changes, states and their limits, acknowledgements and events, what is ready, the calls,
+-- decisions, and lists of calls.
+pub mod Changes
+pub mod States
+pub mod Acknowledgements
+pub mod Receiving
+pub mod Readiness
+pub mod Writing
+pub mod Decisions
+pub mod Calls

@@ -1,0 +1,64 @@
+// The controller end (document 01, "Controller end"): its state by value, events offered and acknowledgements taken,
+// and the share of a switch's ready change written. Every call takes every state, byte string and number.
+use flow::Rule;
+use playbook::Playbook;
+
+mod acknowledgements;
+mod changes;
+mod decisions;
+mod limits;
+mod readiness;
+mod receiving;
+mod states;
+mod writing;
+
+pub use receiving::receive;
+pub use states::setup;
+pub use writing::write_share;
+
+// A change that was given a number and is not done: its number, its decision's first number, and what the playbook
+// says of it.
+pub struct Undone {
+    pub number: u32,
+    pub first: u32,
+    pub flow: u8,
+    pub switch: u8,
+    pub rule: Rule,
+}
+
+// The undone changes: the first `count` places are in use, by rising number.
+pub struct Held {
+    pub changes: [Undone; limits::UNDONE],
+    pub count: usize,
+}
+
+// A controller: its id, the number of controllers, the playbook, for each switch the highest number acknowledged and
+// the last decided serial, the last number given, and the undone changes.
+pub struct Controller {
+    pub id: u8,
+    pub n: u8,
+    pub playbook: Playbook,
+    pub acknowledged: [u32; limits::PLACES],
+    pub serials: [u32; limits::PLACES],
+    pub last: u32,
+    pub undone: Held,
+}
+
+// What a call offers for agreement: an event that was received, or nothing.
+pub enum Offer {
+    Nothing,
+    Event { switch: u8, serial: u32, cause: u8 },
+}
+
+// What a call gives: its answer, what it offers, and the state that the next call gets.
+pub struct Reply {
+    pub answer: u8,
+    pub offer: Offer,
+    pub state: Controller,
+}
+
+// The ready change of a switch, or none.
+pub(crate) enum Ready {
+    Nothing,
+    Change(Undone),
+}

@@ -1,0 +1,9 @@
+// The ranges of a domain and of a controller's state (document 01, "What the domain consists of" and "Controller end").
+
+pub(crate) const CONTROLLERS: u8 = 16;
+
+pub(crate) const SWITCHES: u8 = 16;
+// One place for each switch.
+pub(crate) const PLACES: usize = 16;
+
+pub(crate) const UNDONE: usize = 64;

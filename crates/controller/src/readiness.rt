@@ -1,0 +1,58 @@
+// The ready change of a switch.
+ghost use mathlib.Core.Path.{_≡_};
+ghost use mathlib.Core.Bool.{true, not};
+ghost use Prim.Native.Nat.{_≤_};
+ghost use lib.ListN.{take};
+ghost use Rattle.lists.specs.Arrays.{every};
+ghost use Rattle.lists.specs.Rising.{risingFrom};
+ghost use Rattle.controller.specs.Changes.{numbersOf};
+ghost use Rattle.controller.specs.Readiness.{sameFlow, readyOf};
+use crate::Ready;
+use crate::Undone;
+use crate::limits;
+
+fn same_flow(u: Undone, v: Undone) -> bool
+    ensures { λ r. ⌜ r ≡ sameFlow u v ⌝ }
+{
+    if v.first == u.first {
+        v.flow == u.flow
+    } else {
+        false
+    }
+}
+
+// Whether none of the first n undone changes is of the decision and flow of a change.
+fn flow_free(changes: [Undone; limits::UNDONE], n: usize, u: Undone) -> bool
+    requires { ⌜ n ≤ 64 ⌝ }
+    ensures { λ r. ⌜ r ≡ every (λ v. not (sameFlow u v)) (take n changes) ⌝ }
+{
+    let mut i: usize = 0;
+    while i < n {
+        let v = changes[i];
+        if same_flow(u, v) {
+            return false;
+        }
+        i += 1;
+    }
+    true
+}
+
+// The ready one of the first n undone changes on a switch. Numbers rise, so only the first change on the switch can be
+// ready, and it has to wait for those before it of its decision and flow.
+pub(crate) fn ready_in(changes: [Undone; limits::UNDONE], n: usize, switch: u8) -> Ready
+    requires { ⌜ (n ≤ 64) × (risingFrom 0 (numbersOf (take n changes)) ≡ true) ⌝ }
+    ensures { λ r. ⌜ r ≡ readyOf switch (take n changes) ⌝ }
+{
+    let mut i: usize = 0;
+    while i < n {
+        let u = changes[i];
+        if u.switch == switch {
+            if flow_free(changes, i, u) {
+                return Ready::Change(u);
+            }
+            return Ready::Nothing;
+        }
+        i += 1;
+    }
+    Ready::Nothing
+}

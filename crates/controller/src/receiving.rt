@@ -1,0 +1,128 @@
+// Bytes received at a controller.
+ghost use mathlib.Core.Path.{_≡_};
+ghost use mathlib.Core.Bool.{true};
+ghost use Prim.Native.Nat.{_*_};
+ghost use lib.ListN.{length};
+ghost use Rattle.answer.specs.Ask.{firstNo};
+ghost use Rattle.message.specs.Keys.{keyLength};
+ghost use Rattle.message.specs.declared.Message.the-variants as kinds;
+ghost use Rattle.controller.specs.States.{controllerOk};
+ghost use Rattle.controller.specs.Receiving.{senderQuestions, arrived, receivedBy};
+use crate::Controller;
+use crate::Offer;
+use crate::Reply;
+use crate::acknowledgements::take_acknowledgement;
+use crate::acknowledgements::take_event;
+use crate::limits;
+use crate::states::state_question;
+use message::End;
+use message::Message;
+
+// Questions 12, 13 and 14, of the sender and the receiver that the bytes name.
+fn sender_question(c: Controller, keys: &[u8], bytes: &[u8], switch: u8, receiver: u8) -> u8
+    requires { ⌜ length (now keys) ≡ keyLength * 16 ⌝ }
+    ensures { λ r. ⌜ r ≡ firstNo (senderQuestions c (now (keys .entry)) (now (bytes .entry)) switch receiver) ⌝ }
+{
+    if limits::SWITCHES <= switch {
+        return answer::UNKNOWN_ID;
+    }
+    if receiver != c.id {
+        return answer::WRONG_RECEIVER;
+    }
+    let at = message::keys::LENGTH * (switch as usize);
+    if !message::is_sealed(&keys[at..at + message::keys::LENGTH], bytes) {
+        return answer::WRONG_TAG;
+    }
+    answer::DONE
+}
+
+// The fields of an event that was read from the bytes.
+fn receive_event(
+    c: Controller,
+    keys: &[u8],
+    bytes: &[u8],
+    switch: u8,
+    receiver: u8,
+    serial: u32,
+    cause: u8,
+) -> Reply
+    requires { ⌜ length (now keys) ≡ keyLength * 16 ⌝ }
+    ensures { λ r. ⌜ r
+        ≡ arrived c (now (keys .entry)) (now (bytes .entry)) (kinds.Event switch receiver serial cause) ⌝ }
+{
+    let k = sender_question(c, keys, bytes, switch, receiver);
+    if k != answer::DONE {
+        return Reply {
+            answer: k,
+            offer: Offer::Nothing,
+            state: c,
+        };
+    }
+    take_event(c, switch, serial, cause)
+}
+
+// The fields of an acknowledgement that was read from the bytes.
+fn receive_acknowledgement(
+    c: Controller,
+    keys: &[u8],
+    bytes: &[u8],
+    switch: u8,
+    receiver: u8,
+    number: u32,
+) -> Reply
+    requires { ⌜ (controllerOk c ≡ true) × (length (now keys) ≡ keyLength * 16) ⌝ }
+    ensures { λ r. ⌜ r
+        ≡ arrived c (now (keys .entry)) (now (bytes .entry)) (kinds.Acknowledgement switch receiver number) ⌝ }
+{
+    let k = sender_question(c, keys, bytes, switch, receiver);
+    if k != answer::DONE {
+        return Reply {
+            answer: k,
+            offer: Offer::Nothing,
+            state: c,
+        };
+    }
+    take_acknowledgement(c, switch, number)
+}
+
+// Questions 20, 21, 10 to 14 and, of an event, 22; then the event is offered, or the acknowledgement taken or a repeat.
+pub fn receive(c: Controller, keys: &[u8], bytes: &[u8]) -> Reply
+    ensures { λ r. ⌜ r ≡ receivedBy c (now (keys .entry)) (now (bytes .entry)) ⌝ }
+{
+    let k = state_question(c, keys.len());
+    if k != answer::DONE {
+        return Reply {
+            answer: k,
+            offer: Offer::Nothing,
+            state: c,
+        };
+    }
+    match message::read(End::Controller, bytes) {
+        Message::Event {
+            switch,
+            controller,
+            serial,
+            cause,
+        } => receive_event(c, keys, bytes, switch, controller, serial, cause),
+        Message::Acknowledgement {
+            switch,
+            controller,
+            number,
+        } => receive_acknowledgement(c, keys, bytes, switch, controller, number),
+        Message::Refused(k) => Reply {
+            answer: k,
+            offer: Offer::Nothing,
+            state: c,
+        },
+        Message::Share {
+            controller: _,
+            switch: _,
+            number: _,
+            rule: _,
+        } => Reply {
+            answer: answer::WRONG_KIND,
+            offer: Offer::Nothing,
+            state: c,
+        },
+    }
+}

@@ -1,0 +1,173 @@
+// The state of a controller: set up, and its limits.
+ghost use mathlib.Core.Path.{_≡_};
+ghost use Prim.Native.Nat.{_≤_};
+ghost use lib.ListN.{take};
+ghost use Rattle.answer.specs.Ask.{firstNo};
+ghost use Rattle.lists.specs.Arrays.{every};
+ghost use Rattle.lists.specs.Rising.{risingFrom};
+ghost use Rattle.controller.specs.Changes.{numbersOf};
+ghost use Rattle.controller.specs.States.{inRange, fresh, setupOf, undoneOk, controllerOk, stateQuestions};
+use crate::Controller;
+use crate::Offer;
+use crate::Reply;
+use crate::Undone;
+use crate::changes::empty_from;
+use crate::changes::is_undone;
+use crate::changes::none_held;
+use crate::limits;
+use playbook::Playbook;
+
+// Whether a controller can have this id, and a domain so many controllers.
+fn in_range(id: u8, n: u8) -> bool
+    ensures { λ r. ⌜ r ≡ inRange id n ⌝ }
+{
+    if n == 0 {
+        return false;
+    }
+    if limits::CONTROLLERS < n {
+        return false;
+    }
+    id < n
+}
+
+// A controller to which nothing has happened.
+fn new(id: u8, n: u8, p: Playbook) -> Controller
+    ensures { λ r. ⌜ r ≡ fresh id n p ⌝ }
+{
+    let none = none_held();
+    Controller {
+        id: id,
+        n: n,
+        playbook: p,
+        acknowledged: [0; limits::PLACES],
+        serials: [0; limits::PLACES],
+        last: 0,
+        undone: none,
+    }
+}
+
+// A controller set up with its id, the number of controllers and its playbook, or an all-zero state. The playbook is
+// not asked here: where it is not such as its reader stores, every later call answers 20.
+pub fn setup(id: u8, n: u8, p: Playbook) -> Reply
+    ensures { λ r. ⌜ r ≡ setupOf id n p ⌝ }
+{
+    if in_range(id, n) {
+        let state = new(id, n, p);
+        Reply {
+            answer: answer::DONE,
+            offer: Offer::Nothing,
+            state: state,
+        }
+    } else {
+        let none = playbook::empty();
+        let state = new(0, 0, none);
+        Reply {
+            answer: answer::LIMITS_BROKEN,
+            offer: Offer::Nothing,
+            state: state,
+        }
+    }
+}
+
+// The limits of one undone change.
+fn undone_ok(acknowledged: [u32; limits::PLACES], last: u32, u: Undone) -> bool
+    ensures { λ r. ⌜ r ≡ undoneOk acknowledged last u ⌝ }
+{
+    if limits::SWITCHES <= u.switch {
+        return false;
+    }
+    if !is_undone(acknowledged, u) {
+        return false;
+    }
+    if last < u.number {
+        return false;
+    }
+    if u.first == 0 {
+        return false;
+    }
+    if u.number < u.first {
+        return false;
+    }
+    let rule = u.rule;
+    flow::well_formed(rule)
+}
+
+// Whether the first n undone changes are each within their limits.
+fn each_ok(
+    changes: [Undone; limits::UNDONE],
+    n: usize,
+    acknowledged: [u32; limits::PLACES],
+    last: u32,
+) -> bool
+    requires { ⌜ n ≤ 64 ⌝ }
+    ensures { λ r. ⌜ r ≡ every (undoneOk acknowledged last) (take n changes) ⌝ }
+{
+    let mut i: usize = 0;
+    while i < n {
+        let u = changes[i];
+        if undone_ok(acknowledged, last, u) {
+            i += 1;
+        } else {
+            return false;
+        }
+    }
+    true
+}
+
+// Whether the numbers of the first n undone changes rise, from 1 on.
+fn are_rising(changes: [Undone; limits::UNDONE], n: usize) -> bool
+    requires { ⌜ n ≤ 64 ⌝ }
+    ensures { λ r. ⌜ r ≡ risingFrom 0 (numbersOf (take n changes)) ⌝ }
+{
+    let mut before: u32 = 0;
+    let mut i: usize = 0;
+    while i < n {
+        let u = changes[i];
+        if u.number <= before {
+            return false;
+        }
+        before = u.number;
+        i += 1;
+    }
+    true
+}
+
+// Question 20.
+pub(crate) fn controller_ok(c: Controller) -> bool
+    ensures { λ r. ⌜ r ≡ controllerOk c ⌝ }
+{
+    if !in_range(c.id, c.n) {
+        return false;
+    }
+    let undone = c.undone;
+    let n = undone.count;
+    if limits::UNDONE < n {
+        return false;
+    }
+    let changes = undone.changes;
+    let acknowledged = c.acknowledged;
+    if !each_ok(changes, n, acknowledged, c.last) {
+        return false;
+    }
+    if !are_rising(changes, n) {
+        return false;
+    }
+    if !empty_from(changes, n) {
+        return false;
+    }
+    let p = c.playbook;
+    playbook::stored(p)
+}
+
+// Questions 20 and 21, of a state and the length of its key store: 0, or the number of the first whose answer is no.
+pub(crate) fn state_question(c: Controller, stored: usize) -> u8
+    ensures { λ r. ⌜ r ≡ firstNo (stateQuestions c stored) ⌝ }
+{
+    if !controller_ok(c) {
+        return answer::LIMITS_BROKEN;
+    }
+    if stored != message::keys::LENGTH * limits::PLACES {
+        return answer::WRONG_KEY_STORE;
+    }
+    answer::DONE
+}
