@@ -8,29 +8,14 @@ library.
 
 Nothing here is taken from the crates. Names and numbers are document 01's.
 """
-import hashlib
-import hmac
 import random
 import struct
-import sys
 
-LARGEST = 4294967295
-
-
-def well_formed(prefix, length):
-    return length <= 32 and prefix % (1 << (32 - length)) == 0
+from paper import LARGEST, Calls, key, tag, tell, well_formed
 
 
 def quorum(n):
     return (n - 1) // 3 + 1
-
-
-def key(controller, switch):
-    return bytes([controller, switch]) + bytes(30)
-
-
-def tag(secret, body):
-    return hmac.new(secret, body, hashlib.sha256).digest()[:16]
 
 
 def share(controller, switch, number, rule, secret=None):
@@ -160,20 +145,12 @@ class Switch:
         return "port %d" % max(found)[1] if found else "nothing"
 
 
-class Drill:
-    """The calls so far, as bytes, and the lines they must print."""
+class Drill(Calls):
+    """Calls at one switch."""
 
     def __init__(self, long):
-        self.long = long
-        self.cases, self.lines = b"", []
+        super().__init__(long)
         self.switch, self.keys = Switch(), b""
-
-    def some(self, few, many):
-        """What every run has, and what only the long one has."""
-        return tuple(few) + (tuple(many) if self.long else ())
-
-    def case(self, letter, body):
-        self.cases += letter + struct.pack(">H", len(body)) + body
 
     def replied(self, word, answer, more=""):
         self.lines.append("%s %d%s%s" % (word, answer, self.switch.show(), more))
@@ -574,19 +551,9 @@ def drill(long):
         scene(d)
     for seed in d.some((), range(10)):
         at_random(d, seed, 80)
-    d.case(b"?", b"")
-    d.lines.append("unknown case")
-    d.cases += b"R\0\1"
-    d.lines.append("cut case")
+    d.end()
     return d
 
 
 if __name__ == "__main__":
-    part, kind = (sys.argv + ["", ""])[1:3]
-    if part not in ("stdin", "stdout") or kind not in ("", "long"):
-        sys.exit(__doc__)
-    d = drill(kind == "long")
-    if part == "stdin":
-        sys.stdout.buffer.write(d.cases)
-    else:
-        print("\n".join(d.lines))
+    tell(__doc__, drill)

@@ -1,10 +1,11 @@
 #!/bin/sh
-# The cases of the test programs, and the lines they must print, are what tests/trials.py and tests/drills.py work out
-# from document 01 alone. The compiled drills is then run on many more cases than its file has.
+# The cases of the test programs, and the lines they must print, are what tests/trials.py, drills.py and duties.py work
+# out from document 01 alone. The compiled drills and duties are then run on many more cases than their files have.
 set -u
+export PYTHONDONTWRITEBYTECODE=1
 if ! command -v python3 >/dev/null; then
     echo "tests/references.sh needs Python 3"
-    echo "0 passed, 5 failed"
+    echo "0 passed, 8 failed"
     exit 1
 fi
 passed=0
@@ -18,7 +19,7 @@ ended() {
     fi
 }
 
-for program in trials drills; do
+for program in trials drills duties; do
     for part in stdin stdout; do
         python3 "tests/$program.py" "$part" | cmp -s - "crates/$program/$part"
         ended $? "crates/$program/$part is not what tests/$program.py works out"
@@ -27,10 +28,12 @@ done
 
 work=${TMPDIR:-/tmp}/references.$$
 mkdir "$work" || exit 1
-python3 tests/drills.py stdout long >"$work/expected"
-python3 tests/drills.py stdin long | target/bin/drills >"$work/printed"
-[ -s "$work/expected" ] && cmp "$work/expected" "$work/printed"
-ended $? "drills does not print what tests/drills.py works out for the long list of calls"
+for program in drills duties; do
+    python3 "tests/$program.py" stdout long >"$work/expected"
+    python3 "tests/$program.py" stdin long | "target/bin/$program" >"$work/printed"
+    [ -s "$work/expected" ] && cmp "$work/expected" "$work/printed"
+    ended $? "$program does not print what tests/$program.py works out for the long list of calls"
+done
 rm -rf "$work"
 
 echo "$passed passed, $failed failed"

@@ -47,6 +47,26 @@ pub fn say_hex(bytes: &[u8]) {
     }
 }
 
+// An action, since a set of port 0 is no removal.
+fn say_action(action: Action) {
+    match action {
+        Action::Remove => say(b" remove"),
+        Action::Set(port) => {
+            say(b" set");
+            say_port(port);
+        }
+    }
+}
+
+// A rule with its action.
+pub fn say_whole_rule(rule: Rule) {
+    let action = rule.action;
+    say_word(rule.prefix);
+    say_byte(rule.length);
+    say_action(action);
+}
+
+// A rule with the port that it has in bytes.
 pub fn say_rule(rule: Rule) {
     let action = rule.action;
     let port = flow::port_of(action);

@@ -9,10 +9,10 @@ use cases::say_byte;
 use cases::say_hex;
 use cases::say_port;
 use cases::say_size;
+use cases::say_whole_rule;
 use cases::say_word;
 use cases::u16_at;
 use cases::u32_at;
-use flow::Action;
 use flow::Entry;
 use flow::Rule;
 use flow::Table;
@@ -66,26 +66,12 @@ fn say_table(table: Table) {
     }
 }
 
-// An action, since a set of port 0 is no removal.
-fn say_action(action: Action) {
-    match action {
-        Action::Remove => say(b" remove"),
-        Action::Set(port) => {
-            say(b" set");
-            say_port(port);
-        }
-    }
-}
-
 fn say_slot(i: usize, slot: Slot) {
     let rule = slot.rule;
-    let action = rule.action;
     say(b" slot");
     say_size(i);
     say_word(slot.number);
-    say_word(rule.prefix);
-    say_byte(rule.length);
-    say_action(action);
+    say_whole_rule(rule);
 }
 
 fn slot_empty(slot: Slot) -> bool {
