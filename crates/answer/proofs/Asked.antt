@@ -5,6 +5,7 @@ use mathlib.Core.List.{List, [], _∷_}
 use Prim.Native.Nat.{ℕ, _≤_}
 use native.Mathlib.Omega.{arith}
 use lib.Dec.{leb, eqb, leb·zero}
+use lib.ListN.{drop}
 use borrow.Author.Tests.{leb-true}
 use Rattle.answer.specs.Ask.{Question, pick, reply, firstNo}
 use Rattle.answer.proofs.Bools.{by-bool, and-join, and-parts}
@@ -60,6 +61,10 @@ all-yes qs refusal next n e = by-reply 1 qs refusal next n (λ h f. absurd (omeg
 pub some-no : {A : Type 0} (qs : List Question) (refusal : ℕ → A) (next : A) → (firstNo qs ≡ 0 → ⊥)
     → reply qs refusal next ≡ refusal (firstNo qs)
 some-no qs refusal next n = by-reply 0 qs refusal next (from-0 qs) (λ h f. f) (λ y f. absurd (n y))
+
+-- the first n questions have been answered yes
+abbrev pub Past : List Question → ℕ → Type 0
+Past qs n = firstNo qs ≡ firstNo (drop n qs)
 
 -- the first number, where it is not 0, is what a call refuses with
 pub stopped : {A : Type 0} (qs : List Question) (refusal : ℕ → A) (next : A) {k : ℕ} → k ≡ firstNo qs → (k ≡ 0 → ⊥)

@@ -11,8 +11,7 @@ use lib.ListN.{length}
 use borrow.Author.Tests.{ltb-true, leb-true, eqb-true, lt-ltb, le-leb, eq-eqb}
 use Rattle.answer.specs.Ask.{Question, pick, reply, firstNo}
 use Rattle.answer.proofs.Asked.{reply-ap, all-yes, some-no, answered, reply-keeps}
-use Rattle.answer.proofs.Bools.{tf, and-parts}
-use Rattle.flow.specs.Rules.{prefixOk, ruleKey}
+use Rattle.answer.proofs.Bools.{tf}
 use Rattle.message.specs.Keys.{keyLength, keyAt}
 use Rattle.message.specs.Layout.{shareLength}
 use Rattle.message.specs.Writing.{encode, isMessage, placed, InRange}
@@ -27,8 +26,8 @@ use Rattle.controller.specs.declared.Ready.{Ready}
 use Rattle.controller.specs.declared.Ready.the-variants.{Nothing, Change}
 use Rattle.controller.specs.declared.Reply.{Reply}
 use Rattle.controller.specs.declared.Undone.{Undone}
-use Rattle.controller.proofs.Within.{within}
-use Rattle.controller.proofs.Waiting.{undoneAt, none-ready, ready-fits}
+use Rattle.controller.proofs.Waiting.{undoneAt, none-ready}
+use Rattle.controller.proofs.Shares.{share-said}
 
 -- what the questions of a writing say where every answer is yes
 pub record Allowed (c : Controller) (keys : List ℕ) (s : ℕ) (frame : List ℕ) (at : ℕ) : Type 0 where
@@ -121,8 +120,7 @@ module _ (c : Controller) (keys : List ℕ) (s : ℕ) (frame : List ℕ) (at : �
     pub share-sent : (u : Undone) → readyFor c s ≡ Change u → InRange (Share (c .id) s (u .number) (u .rule))
         → Sent (keyAt keys s) (Share (c .id) s (u .number) (u .rule)) frame at (shareWritten c keys s frame at .1)
     share-sent u r range =
-        let formed = ready-fits c (within c (allowed .limits)) s u r .formed in
-        let port = and-parts (prefixOk (ruleKey (u .rule))) _ formed .1 in
+        let port = rw r at (share-said c s (allowed .limits)) in
         rw (frame-is, r) (sent _ (Share (c .id) s (u .number) (u .rule)) frame at refl port range (allowed .room))
 
   -- the state stays, so writing again gives the same reply and the same bytes

@@ -12,6 +12,7 @@ use Rattle.answer.proofs.Asked.{reply-from, answered}
 use Rattle.answer.proofs.Bools.{by-bool}
 use Rattle.message.specs.Keys.{keyLength, keyAt}
 use Rattle.message.specs.Reading.{decode, isSealed}
+use Rattle.message.specs.Senders.{senderQuestions}
 use Rattle.message.specs.declared.End.the-variants as ends
 use Rattle.message.specs.declared.Message.{Message}
 use Rattle.message.specs.declared.Message.the-variants.{Event, Acknowledgement}
@@ -19,7 +20,7 @@ use Rattle.message.proofs.Ends.{by-controller, from-10}
 use Rattle.controller.specs.States.{unchanged, controllerOk, stateQuestions}
 use Rattle.controller.specs.Acknowledgements.{acknowledgedOf, serialOf, acknowledge, offers}
 use Rattle.controller.specs.Acknowledgements.{takeAcknowledgement, takeEvent}
-use Rattle.controller.specs.Receiving.{senderQuestions, receivedBy}
+use Rattle.controller.specs.Receiving.{receivedBy}
 use Rattle.controller.specs.declared.Controller.{Controller}
 use Rattle.controller.specs.declared.Reply.{Reply}
 
@@ -47,11 +48,11 @@ module _ (c : Controller) (keys bytes : List ℕ) where
 
   -- what it says that every answer is yes, of the state and of the sender
   arrives : {s to : ℕ} (m : ℕ → Message) → firstNo (stateQuestions c (length keys)) ≡ 0
-      → decode ends.Controller bytes ≡ m to → firstNo (senderQuestions c keys bytes s to) ≡ 0
+      → decode ends.Controller bytes ≡ m to → firstNo (senderQuestions 16 (c .id) keys bytes s to) ≡ 0
       → Arrives c keys bytes s (m (c .id))
   arrives {s} {to} m state d sender =
       let limits = answered (stateQuestions c (length keys)) refl state in
-      let known = answered (senderQuestions c keys bytes s to) refl sender in
+      let known = answered (senderQuestions 16 (c .id) keys bytes s to) refl sender in
       record {
         limits = limits 20;
         store = eqb-true _ _ (limits 21);
@@ -63,13 +64,13 @@ module _ (c : Controller) (keys bytes : List ℕ) where
   -- an event and an acknowledgement after these questions
   module _ (state : firstNo (stateQuestions c (length keys)) ≡ 0) where
     event-taken : {s to serial cause : ℕ} → decode ends.Controller bytes ≡ Event s to serial cause
-        → firstNo (senderQuestions c keys bytes s to) ≡ 0 → Replies (takeEvent c s serial cause)
+        → firstNo (senderQuestions 16 (c .id) keys bytes s to) ≡ 0 → Replies (takeEvent c s serial cause)
     event-taken {s} {to} {serial} {cause} d sender =
         let a = arrives (λ t. Event s t serial cause) state d sender in
         reply-from Replies 10 _ _ _ refl (λ k h. refused h) (λ own. offered a (ltb-true _ _ (answered _ refl own 22)))
 
     acknowledgement-taken : {s to number : ℕ} → decode ends.Controller bytes ≡ Acknowledgement s to number
-        → firstNo (senderQuestions c keys bytes s to) ≡ 0 → Replies (takeAcknowledgement c s number)
+        → firstNo (senderQuestions 16 (c .id) keys bytes s to) ≡ 0 → Replies (takeAcknowledgement c s number)
     acknowledgement-taken {s} {to} {number} d sender =
         let a = arrives (λ t. Acknowledgement s t number) state d sender in
         by-bool (ltb (acknowledgedOf c s) number)

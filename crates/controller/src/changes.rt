@@ -86,7 +86,8 @@ pub(crate) fn is_undone(acknowledged: [u32; limits::PLACES], u: Undone) -> bool
     }
 }
 
-// One more change in the next place, unless it is done. Past the last place it is only counted.
+// One more change in the next place, unless it is done. Past the last place it is only counted; what is required keeps
+// that count from overflowing.
 pub(crate) fn hold(h: Held, acknowledged: [u32; limits::PLACES], u: Undone) -> Held
     requires { ⌜ h .count < 1000 ⌝ }
     ensures { λ r. ⌜ r ≡ pick (isUndone acknowledged u) (withChange h u) h ⌝ }

@@ -29,7 +29,7 @@ fn with_number(first: u32, number: u32, change: Change) -> Undone
 pub(crate) fn with_plan(
     h: Held,
     acknowledged: [u32; limits::PLACES],
-    listed: [Change; 512],
+    listed: [Change; limits::LISTED],
     from: usize,
     count: usize,
     last: u32,

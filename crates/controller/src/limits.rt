@@ -7,3 +7,5 @@ pub(crate) const SWITCHES: u8 = 16;
 pub(crate) const PLACES: usize = 16;
 
 pub(crate) const UNDONE: usize = 64;
+// Changes of a playbook.
+pub(crate) const LISTED: usize = 512;

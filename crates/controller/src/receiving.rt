@@ -1,13 +1,9 @@
 // Bytes received at a controller.
 ghost use mathlib.Core.Path.{_≡_};
 ghost use mathlib.Core.Bool.{true};
-ghost use Prim.Native.Nat.{_*_};
-ghost use lib.ListN.{length};
-ghost use Rattle.answer.specs.Ask.{firstNo};
-ghost use Rattle.message.specs.Keys.{keyLength};
 ghost use Rattle.message.specs.declared.Message.the-variants as kinds;
 ghost use Rattle.controller.specs.States.{controllerOk};
-ghost use Rattle.controller.specs.Receiving.{senderQuestions, arrived, receivedBy};
+ghost use Rattle.controller.specs.Receiving.{arrived, receivedBy};
 use crate::Controller;
 use crate::Offer;
 use crate::Reply;
@@ -17,24 +13,6 @@ use crate::limits;
 use crate::states::state_question;
 use message::End;
 use message::Message;
-
-// Questions 12, 13 and 14, of the sender and the receiver that the bytes name.
-fn sender_question(c: Controller, keys: &[u8], bytes: &[u8], switch: u8, receiver: u8) -> u8
-    requires { ⌜ length (now keys) ≡ keyLength * 16 ⌝ }
-    ensures { λ r. ⌜ r ≡ firstNo (senderQuestions c (now (keys .entry)) (now (bytes .entry)) switch receiver) ⌝ }
-{
-    if limits::SWITCHES <= switch {
-        return answer::UNKNOWN_ID;
-    }
-    if receiver != c.id {
-        return answer::WRONG_RECEIVER;
-    }
-    let at = message::keys::LENGTH * (switch as usize);
-    if !message::is_sealed(&keys[at..at + message::keys::LENGTH], bytes) {
-        return answer::WRONG_TAG;
-    }
-    answer::DONE
-}
 
 // The fields of an event that was read from the bytes.
 fn receive_event(
@@ -46,11 +24,10 @@ fn receive_event(
     serial: u32,
     cause: u8,
 ) -> Reply
-    requires { ⌜ length (now keys) ≡ keyLength * 16 ⌝ }
     ensures { λ r. ⌜ r
         ≡ arrived c (now (keys .entry)) (now (bytes .entry)) (kinds.Event switch receiver serial cause) ⌝ }
 {
-    let k = sender_question(c, keys, bytes, switch, receiver);
+    let k = message::sender_question(limits::SWITCHES, c.id, keys, bytes, switch, receiver);
     if k != answer::DONE {
         return Reply {
             answer: k,
@@ -70,11 +47,11 @@ fn receive_acknowledgement(
     receiver: u8,
     number: u32,
 ) -> Reply
-    requires { ⌜ (controllerOk c ≡ true) × (length (now keys) ≡ keyLength * 16) ⌝ }
+    requires { ⌜ controllerOk c ≡ true ⌝ }
     ensures { λ r. ⌜ r
         ≡ arrived c (now (keys .entry)) (now (bytes .entry)) (kinds.Acknowledgement switch receiver number) ⌝ }
 {
-    let k = sender_question(c, keys, bytes, switch, receiver);
+    let k = message::sender_question(limits::SWITCHES, c.id, keys, bytes, switch, receiver);
     if k != answer::DONE {
         return Reply {
             answer: k,

@@ -1,6 +1,5 @@
 -- The elements of a list that pass a test f: all of them pass, what held of every element holds of them, those of two
--- lists are those of each, a list that passes is itself, a weaker test before f changes nothing, and rising numbers go
--- on rising. Assumes nothing.
+-- lists are those of each, a weaker test before f changes nothing, and rising numbers go on rising. Assumes nothing.
 use mathlib.Core.Path.{_≡_, refl, ap, _∙_}
 use mathlib.Core.Bool.{Bool, true}
 use mathlib.Core.List.{List, [], _∷_, _++_, map, append-nil}
@@ -56,13 +55,6 @@ module _ {A : Type 0} (f : A → Bool) where
       let t = and-parts (g x) (every g l) h in
       let rest = every-passing g l (t .1) in
       by-bool (f x) (λ e. rw e (and-join (g x) _ (t .0) rest)) (λ e. rw e rest)
-
-  pub all-passing : (l : List A) → every f l ≡ true → passing f l ≡ l
-  unfolding passing everyTail
-  all-passing [] h = refl
-  all-passing (x ∷ l) h =
-      let t = and-parts (f x) (every f l) h in
-      rw (t .0) (ap (λ (m : List A). x ∷ m) (all-passing l (t .1)))
 
   -- numbers of the elements that rise, rise among those that pass
   pub rising-passing : (number : A → ℕ) (last : ℕ) (l : List A) → risingFrom last (map number l) ≡ true

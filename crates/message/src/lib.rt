@@ -1,16 +1,18 @@
-// The messages between switches and controllers (document 01, "Bytes"): read, written at an offset of a frame, and
-// their tags checked. Every function takes every byte string, every offset and every message.
+// The messages between switches and controllers (document 01, "Bytes"): read, written at an offset of a frame, their
+// tags checked, and their senders asked. Every function takes every byte string, every offset and every message.
 use flow::Rule;
 
 mod fields;
 pub mod keys;
 pub mod layout;
 mod reading;
+mod senders;
 mod writing;
 
 pub use reading::is_sealed;
 pub use reading::number;
 pub use reading::read;
+pub use senders::sender_question;
 pub use writing::fits;
 pub use writing::length_of;
 pub use writing::write;

@@ -12,13 +12,14 @@ use Rattle.answer.proofs.Bools.{by-bool}
 use Rattle.flow.specs.declared.Rule.{Rule}
 use Rattle.message.specs.Keys.{keyLength, keyAt}
 use Rattle.message.specs.Reading.{decode, isSealed}
+use Rattle.message.specs.Senders.{senderQuestions}
 use Rattle.message.specs.declared.End.the-variants as ends
 use Rattle.message.specs.declared.Message.the-variants.{Share}
 use Rattle.message.proofs.Ends.{by-switch, from-10}
 use Rattle.switch.specs.Slots.{holds, isQuorum}
 use Rattle.switch.specs.States.{unchanged, switchOk, stateQuestions}
 use Rattle.switch.specs.Shares.{slotOf, shareQuestions, stored, applied, taken, takeShare}
-use Rattle.switch.specs.Receiving.{senderQuestions, receivedBy}
+use Rattle.switch.specs.Receiving.{receivedBy}
 use Rattle.switch.specs.declared.Reply.{Reply}
 use Rattle.switch.specs.declared.Switch.{Switch}
 use Rattle.switch.proofs.Passing.{Passes, passes, passing}
@@ -60,11 +61,11 @@ module _ (s : Switch) (keys bytes : List ℕ) where
 
   -- what it says that every answer is yes: of the state, of the sender, and of the share
   arrives : {c to number : ℕ} {rule : Rule} → firstNo (stateQuestions s (length keys)) ≡ 0
-      → decode ends.Switch bytes ≡ Share c to number rule → firstNo (senderQuestions s keys bytes c to) ≡ 0
+      → decode ends.Switch bytes ≡ Share c to number rule → firstNo (senderQuestions (s .n) (s .id) keys bytes c to) ≡ 0
       → firstNo (shareQuestions s (slotOf s c) number rule) ≡ 0 → Arrives s keys bytes c number rule
   arrives {c} {to} {number} {rule} state d sender own =
       let limits = answered (stateQuestions s (length keys)) refl state in
-      let known = answered (senderQuestions s keys bytes c to) refl sender in
+      let known = answered (senderQuestions (s .n) (s .id) keys bytes c to) refl sender in
       record {
         limits = limits 20;
         store = eqb-true _ _ (limits 21);

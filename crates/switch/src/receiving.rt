@@ -1,13 +1,9 @@
 // Bytes received at a switch.
 ghost use mathlib.Core.Path.{_≡_};
 ghost use mathlib.Core.Bool.{true};
-ghost use Prim.Native.Nat.{_*_};
-ghost use lib.ListN.{length};
-ghost use Rattle.answer.specs.Ask.{firstNo};
-ghost use Rattle.message.specs.Keys.{keyLength};
 ghost use Rattle.message.specs.declared.Message.the-variants as kinds;
 ghost use Rattle.switch.specs.States.{switchOk};
-ghost use Rattle.switch.specs.Receiving.{senderQuestions, arrived, receivedBy};
+ghost use Rattle.switch.specs.Receiving.{arrived, receivedBy};
 use crate::Reply;
 use crate::Switch;
 use crate::shares::take_share;
@@ -15,24 +11,6 @@ use crate::states::state_question;
 use flow::Rule;
 use message::End;
 use message::Message;
-
-// Questions 12, 13 and 14, of the sender and the receiver that the bytes name.
-fn sender_question(s: Switch, keys: &[u8], bytes: &[u8], controller: u8, receiver: u8) -> u8
-    requires { ⌜ length (now keys) ≡ keyLength * s .n ⌝ }
-    ensures { λ r. ⌜ r ≡ firstNo (senderQuestions s (now (keys .entry)) (now (bytes .entry)) controller receiver) ⌝ }
-{
-    if s.n <= controller {
-        return answer::UNKNOWN_ID;
-    }
-    if receiver != s.id {
-        return answer::WRONG_RECEIVER;
-    }
-    let at = message::keys::LENGTH * (controller as usize);
-    if !message::is_sealed(&keys[at..at + message::keys::LENGTH], bytes) {
-        return answer::WRONG_TAG;
-    }
-    answer::DONE
-}
 
 // The fields of a share that was read from the bytes.
 fn receive_share(
@@ -44,11 +22,11 @@ fn receive_share(
     number: u32,
     rule: Rule,
 ) -> Reply
-    requires { ⌜ (switchOk s ≡ true) × (length (now keys) ≡ keyLength * s .n) ⌝ }
+    requires { ⌜ switchOk s ≡ true ⌝ }
     ensures { λ r. ⌜ r
         ≡ arrived s (now (keys .entry)) (now (bytes .entry)) (kinds.Share controller receiver number rule) ⌝ }
 {
-    let k = sender_question(s, keys, bytes, controller, receiver);
+    let k = message::sender_question(s.n, s.id, keys, bytes, controller, receiver);
     if k != answer::DONE {
         return Reply {
             answer: k,

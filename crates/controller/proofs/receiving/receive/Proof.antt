@@ -38,17 +38,11 @@ read-as c e =
     let s = c .before .before .before .before .before in
     sym (all-yes _ _ _ refl (ready (c .before)) ∙ ap (arrives s) (sym (c .read .ensures) ∙ e))
 
-receive-event-requires : tie.Need-receive-event-requires
-receive-event-requires c κs =
-    let read = c .before .before .before in
-    let a = read .before .before .before .before .before .args in
-    state-passed (a .c) (length (a .keys .now)) (ready (read .before)) .1
-
 receive-acknowledgement-requires : tie.Need-receive-acknowledgement-requires
 receive-acknowledgement-requires c κs =
     let read = c .before .before .before in
     let a = read .before .before .before .before .before .args in
-    state-passed (a .c) (length (a .keys .now)) (ready (read .before))
+    state-passed (a .c) (length (a .keys .now)) (ready (read .before)) .0
 
 returns-2 : tie.Need-returns-2
 returns-2 c =
@@ -69,6 +63,6 @@ returns-5 c = read-as (c .before .before) (c .enum-told .given .1)
 pub receive-spec : {M : Type 1} → statement M
 receive-spec =
     tie.close
-    (tie.spec (λ c κs. search needs) returns (λ c κs. search needs) (λ c. search needs) receive-event-requires
+    (tie.spec (λ c κs. search needs) returns (λ c κs. search needs) (λ c. search needs) (λ c κs. search needs)
     (λ c. search needs) receive-acknowledgement-requires (λ c. search needs) (λ c. search needs) returns-2 returns-3
     returns-4 returns-5)

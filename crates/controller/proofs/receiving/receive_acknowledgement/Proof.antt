@@ -6,7 +6,7 @@ use borrow.Author.Needs.{needs}
 use borrow.Author.Tests.{ltb-true}
 use Rattle.answer.specs.Ask.{firstNo}
 use Rattle.answer.proofs.Asked.{all-yes, stopped, answered}
-use Rattle.controller.specs.Receiving.{senderQuestions}
+use Rattle.message.specs.Senders.{senderQuestions}
 use Rattle.controller.proofs.receiving.receive_acknowledgement.Statement.{statement}
 use Rattle.controller.proofs.receiving.receive_acknowledgement.Tie as tie
 
@@ -16,13 +16,13 @@ returns c = stopped _ _ _ (c .before .sender-question .ensures) (λ e. omega ari
 -- questions 12 to 14 answered yes
 known : (c : tie.Else1)
     → let a = c .before .before .before .before .args in
-    firstNo (senderQuestions (a .c) (a .keys .now) (a .bytes .now) (a .switch) (a .receiver)) ≡ 0
+    firstNo (senderQuestions 16 (a .c .id) (a .keys .now) (a .bytes .now) (a .switch) (a .receiver)) ≡ 0
 known c = sym (c .before .sender-question .ensures) ∙ omega arith
 
 take-acknowledgement-requires : tie.Need-take-acknowledgement-requires
 take-acknowledgement-requires c κs =
     let s = c .before .before .before .before in
-    (s .pre .0, ltb-true _ _ (answered _ refl (known c) 12))
+    (s .pre, ltb-true _ _ (answered _ refl (known c) 12))
 
 returns-2 : tie.Need-returns-2
 returns-2 c = c .take-acknowledgement .ensures ∙ sym (all-yes _ _ _ refl (known (c .before)))

@@ -6,7 +6,7 @@ use borrow.Author.Needs.{needs}
 use borrow.Author.Tests.{ltb-true}
 use Rattle.answer.specs.Ask.{firstNo}
 use Rattle.answer.proofs.Asked.{all-yes, stopped, answered}
-use Rattle.controller.specs.Receiving.{senderQuestions}
+use Rattle.message.specs.Senders.{senderQuestions}
 use Rattle.controller.proofs.receiving.receive_event.Statement.{statement}
 use Rattle.controller.proofs.receiving.receive_event.Tie as tie
 
@@ -16,7 +16,7 @@ returns c = stopped _ _ _ (c .before .sender-question .ensures) (λ e. omega ari
 -- questions 12 to 14 answered yes
 known : (c : tie.Else1)
     → let a = c .before .before .before .before .args in
-    firstNo (senderQuestions (a .c) (a .keys .now) (a .bytes .now) (a .switch) (a .receiver)) ≡ 0
+    firstNo (senderQuestions 16 (a .c .id) (a .keys .now) (a .bytes .now) (a .switch) (a .receiver)) ≡ 0
 known c = sym (c .before .sender-question .ensures) ∙ omega arith
 
 take-event-requires : tie.Need-take-event-requires

@@ -42,7 +42,7 @@ receive-share-requires : tie.Need-receive-share-requires
 receive-share-requires c κs =
     let read = c .before .before .before in
     let a = read .before .before .before .before .before .args in
-    state-passed (a .s) (length (a .keys .now)) (ready (read .before))
+    state-passed (a .s) (length (a .keys .now)) (ready (read .before)) .0
 
 returns-2 : tie.Need-returns-2
 returns-2 c =

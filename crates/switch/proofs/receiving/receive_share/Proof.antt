@@ -6,7 +6,7 @@ use borrow.Author.Needs.{needs}
 use borrow.Author.Tests.{ltb-true}
 use Rattle.answer.specs.Ask.{firstNo}
 use Rattle.answer.proofs.Asked.{all-yes, stopped, answered}
-use Rattle.switch.specs.Receiving.{senderQuestions}
+use Rattle.message.specs.Senders.{senderQuestions}
 use Rattle.switch.proofs.receiving.receive_share.Statement.{statement}
 use Rattle.switch.proofs.receiving.receive_share.Tie as tie
 
@@ -16,13 +16,13 @@ returns c = stopped _ _ _ (c .before .sender-question .ensures) (λ e. omega ari
 -- questions 12 to 14 answered yes
 known : (c : tie.Else1)
     → let a = c .before .before .before .before .args in
-    firstNo (senderQuestions (a .s) (a .keys .now) (a .bytes .now) (a .controller) (a .receiver)) ≡ 0
+    firstNo (senderQuestions (a .s .n) (a .s .id) (a .keys .now) (a .bytes .now) (a .controller) (a .receiver)) ≡ 0
 known c = sym (c .before .sender-question .ensures) ∙ omega arith
 
 take-share-requires : tie.Need-take-share-requires
 take-share-requires c κs =
     let s = c .before .before .before .before in
-    (s .pre .0, ltb-true _ _ (answered _ refl (known c) 12))
+    (s .pre, ltb-true _ _ (answered _ refl (known c) 12))
 
 returns-2 : tie.Need-returns-2
 returns-2 c = c .take-share .ensures ∙ sym (all-yes _ _ _ refl (known (c .before)))

@@ -6,9 +6,8 @@ use native.Mathlib.Omega.{arith}
 use borrow.Author.Needs.{needs}
 use borrow.Author.Tests.{not-true, not-false, lt-ltb, le-ltb, le-leb, lt-leb}
 use Rattle.answer.specs.Ask.{Question}
-use Rattle.answer.proofs.Asked.{refused, asked}
+use Rattle.answer.proofs.Asked.{Past, refused, asked}
 use Rattle.switch.specs.Shares.{shareQuestions}
-use Rattle.switch.proofs.Steps.{Past}
 use Rattle.switch.proofs.shares.share_question.Statement.{statement}
 use Rattle.switch.proofs.shares.share_question.Tie as tie
 
