@@ -33,6 +33,14 @@ reply-ap f [] refusal next = refl
 reply-ap f ((k, true) ∷ qs) refusal next = reply-ap f qs refusal next
 reply-ap f ((k, false) ∷ qs) refusal next = refl
 
+-- two replies that differ at most in what follows, where every answer is yes
+pub reply-same : {A : Type 0} (qs : List Question) (refusal : ℕ → A) (x y : A) → (firstNo qs ≡ 0 → x ≡ y)
+    → reply qs refusal x ≡ reply qs refusal y
+unfolding reply
+reply-same [] refusal x y h = h refl
+reply-same ((k, true) ∷ qs) refusal x y h = reply-same qs refusal x y h
+reply-same ((k, false) ∷ qs) refusal x y h = refl
+
 -- no question has a number below l
 abbrev pub From : ℕ → List Question → Bool
 From l [] = true

@@ -67,3 +67,9 @@ pick-ap f false x y = refl
 pub pick-same : {A : Type 0} (b : Bool) (x : A) → pick b x x ≡ x
 pick-same true x = refl
 pick-same false x = refl
+
+-- what holds of each of two where it is chosen holds of the choice
+pub pick-keeps : {A : Type 0} (P : A → Type 0) (b : Bool) (x y : A) → (b ≡ true → P x) → (b ≡ false → P y)
+    → P (pick b x y)
+pick-keeps P true x y t f = t refl
+pick-keeps P false x y t f = f refl

@@ -7,7 +7,7 @@ use mathlib.Core.List.{List, [], _∷_}
 use Prim.Native.Nat.{ℕ, _+_, _*_, _≤_, _<_}
 use native.Mathlib.Omega.{arith}
 use lib.Dec.{ltb}
-use lib.ListN.{length}
+use lib.ListN.{length, take, drop}
 use borrow.Author.Tests.{ltb-true, leb-true, eqb-true, lt-ltb, le-leb, eq-eqb}
 use Rattle.answer.specs.Ask.{Question, pick, reply, firstNo}
 use Rattle.answer.proofs.Asked.{reply-ap, all-yes, some-no, answered, reply-keeps}
@@ -16,7 +16,7 @@ use Rattle.message.specs.Keys.{keyLength, keyAt}
 use Rattle.message.specs.Layout.{shareLength}
 use Rattle.message.specs.Writing.{encode, isMessage, placed, InRange}
 use Rattle.message.specs.declared.Message.the-variants.{Share}
-use Rattle.message.proofs.Written.{Sent, sent}
+use Rattle.message.proofs.Written.{Sent, placed-message, sent}
 use Rattle.controller.specs.Changes.{meaning}
 use Rattle.controller.specs.States.{controllerOk}
 use Rattle.controller.specs.Readiness.{isReady, readyFor}
@@ -117,6 +117,15 @@ module _ (c : Controller) (keys : List ℕ) (s : ℕ) (frame : List ℕ) (at : �
     unfolding shareWritten
     frame-is = ap (λ (r : Reply × List ℕ). r .1) (all-yes questions _ _ refl (sym answer-is ∙ h))
 
+    -- the bytes are the share's, be its numbers in range or not
+    pub share-bytes : take shareLength (drop at (shareWritten c keys s frame at .1))
+        ≡ encode (keyAt keys s) (shareFor c s)
+    share-bytes =
+        let u = allowed .change in
+        let m = Share (c .id) s (u .number) (u .rule) in
+        rw (frame-is, allowed .ready) (placed-message (keyAt keys s) m frame at (allowed .room))
+
+    -- and in range, they are read as it
     pub share-sent : (u : Undone) → readyFor c s ≡ Change u → InRange (Share (c .id) s (u .number) (u .rule))
         → Sent (keyAt keys s) (Share (c .id) s (u .number) (u .rule)) frame at (shareWritten c keys s frame at .1)
     share-sent u r range =

@@ -61,6 +61,11 @@ module _ (key : List ℕ) (m : Message) (frame : List ℕ) (at : ℕ) where
   fits : at + lengthOf m ≤ length frame → at + length (encode key m) ≤ length frame
   fits h = omega (arith, encode-length key m)
 
+  -- the frame with the message has its bytes at the offset
+  pub placed-message : at + lengthOf m ≤ length frame
+      → take (lengthOf m) (drop at (placed (encode key m) frame at)) ≡ encode key m
+  placed-message room = rw (← encode-length key m) (placed-there (encode key m) frame at (fits room))
+
   -- a message that was written, or a refusal
   pub by-written : {C : Type 0}
       → (isMessage m ≡ true → portSaid m ≡ true → at + lengthOf m ≤ length frame
@@ -83,8 +88,7 @@ module _ (key : List ℕ) (m : Message) (frame : List ℕ) (at : ℕ) where
   pub written : writeTo key m frame at .0 ≡ 0
       → take (lengthOf m) (drop at (writeTo key m frame at .1)) ≡ encode key m
   written h =
-      by-written (λ y p r e. rw (e, ← encode-length key m) (placed-there (encode key m) frame at (fits r)))
-      (λ k n e. let z = rw e at h in absurd (omega arith))
+      by-written (λ y p r e. rw e (placed-message r)) (λ k n e. let z = rw e at h in absurd (omega arith))
 
   -- so the bytes at the offset are read as the message where they arrive, and pass the check of their tag
   pub read-written : InRange m → writeTo key m frame at .0 ≡ 0
@@ -100,8 +104,7 @@ module _ (key : List ℕ) (m : Message) (frame : List ℕ) (at : ℕ) where
       → Sent key m frame at (placed (encode key m) frame at)
   sent y p r room =
       let w = encode key m in
-      let there : take (lengthOf m) (drop at (placed w frame at)) ≡ w =
-      rw (← encode-length key m) (placed-there w frame at (fits room)) in
+      let there = placed-message room in
       record {
         bytes = there;
         read = rw there (decode-encode key m r p);

@@ -46,10 +46,11 @@ pub read-length : (s : List ℕ) → readFirst s .used ≤ mostBytes
 read-length s =
     read-keeps (λ r. r .used ≤ mostBytes)
     (λ used b. (bookOk b ≡ true) × (used ≤ planSize * length (b .plans) + changeSize * length (b .changes)))
-    (λ k. omega arith) (λ used b h. let l = book-parts b (h .0) in omega (arith, h .1, l .plans, l .changes))
+    (λ r. Unit {0}) (λ k. omega arith)
+    (λ used b h. let l = book-parts b (h .0) in omega (arith, h .1, l .plans, l .changes))
     (λ used b t h pass. (plan-kept b t (h .0) pass, rw length-append (omega (arith, h .1))))
-    (λ used b c h pass. (change-kept b c (h .0) pass, rw (count-length, length-append) (omega (arith, h .1))))
-    0 s 0 noPlans (none-ok, omega arith)
+    (λ used b c h says pass. (change-kept b c (h .0) pass, rw (count-length, length-append) (omega (arith, h .1))))
+    0 s 0 noPlans (λ i. tt) (none-ok, omega arith)
 
 pub whole-length : (s : List ℕ) → readWhole s .answer ≡ 0 → length s ≤ mostBytes
 whole-length s h =

@@ -10,7 +10,7 @@ use lib.ListN.{length, drop, length-append}
 use borrow.Author.Tests.{ltb-true, leb-true, eqb-true, lt-ltb, le-leb}
 use Rattle.answer.specs.Ask.{firstNo}
 use Rattle.answer.proofs.Asked.{reply-keeps}
-use Rattle.answer.proofs.Bools.{by-bool, tf, and-join, and-parts}
+use Rattle.answer.proofs.Bools.{by-bool, tf, and-join, and-parts, pick-keeps}
 use Rattle.lists.specs.Arrays.{everyTail, every}
 use Rattle.lists.specs.Kinds.{different, kinds}
 use Rattle.lists.proofs.Members.{different-snoc}
@@ -23,7 +23,7 @@ use Rattle.playbook.specs.Limits.{maxPlans, maxChanges, maxKeys, switchC
 use Rattle.playbook.specs.Books.{Book, noPlans, emptyPlan, emptyChange, meaning, storeOf}
 use Rattle.playbook.specs.Books.{Trigger, triggerOf, sameTrigger, hasTrigger, keysOn, kindsOn}
 use Rattle.playbook.specs.Books.{countLast, withPlan, withChange, planQuestions, changeQuestions}
-use Rattle.playbook.specs.Reading.{refusal, finished, follow, readFrom, readFirst, readWhole}
+use Rattle.playbook.specs.Reading.{refusal, finished, follow, readFrom, readFirst, whole, readWhole}
 use Rattle.playbook.specs.Records.{recordAt}
 use Rattle.playbook.specs.Storing.{spans, changeOk, fewKeysBelow, bookOk, planEmpty, changeEmpty, storedOk}
 use Rattle.playbook.specs.declared.Change.{Change}
@@ -245,36 +245,43 @@ pub none-ok : bookOk noPlans ≡ true
 unfolding bookOk spans different everyTail fewKeysBelow keysOn kinds
 none-ok = refl
 
--- reading, by what is so of the bytes passed and the book so far: what every refusal has, and every end that the book
--- leads to, every reading has
-module _ (P : Outcome → Type 0) (SoFar : ℕ → Book → Type 0)
+-- reading, by what is so of the bytes passed and the book so far, and of the record at each place: what every refusal
+-- has, and every end that the book leads to, every reading has
+module _ (P : Outcome → Type 0) (SoFar : ℕ → Book → Type 0) (Says : Record → Type 0)
     (refuses : (k : ℕ) → P (refusal k))
     (ends : (used : ℕ) (b : Book) → SoFar used b → P (finished (used + endSize) b))
     (opens : (used : ℕ) (b : Book) (t : Trigger) → SoFar used b → firstNo (planQuestions b t) ≡ 0
     → SoFar (used + planSize) (withPlan b t))
-    (lists : (used : ℕ) (b : Book) (c : Change) → SoFar used b → firstNo (changeQuestions b c) ≡ 0
+    (lists : (used : ℕ) (b : Book) (c : Change) → SoFar used b → Says (Lists c) → firstNo (changeQuestions b c) ≡ 0
     → SoFar (used + changeSize) (withChange b c)) where
-  follow-keeps : (r : Record) (used : ℕ) (b : Book) (on : ℕ → Book → Outcome) → SoFar used b
+  follow-keeps : (r : Record) (used : ℕ) (b : Book) (on : ℕ → Book → Outcome) → Says r → SoFar used b
       → ((skip : ℕ) (next : Book) → SoFar (used + suc skip) next → P (on skip next))
       → P (follow r b (finished (used + endSize) b) on)
-  follow-keeps (Refused k) used b on h f = refuses k
-  follow-keeps Ends used b on h f = ends used b h
-  follow-keeps (Opens s c) used b on h f =
+  follow-keeps (Refused k) used b on says h f = refuses k
+  follow-keeps Ends used b on says h f = ends used b h
+  follow-keeps (Opens s c) used b on says h f =
       reply-keeps P (planQuestions b (s, c)) refusal _ refuses (λ pass. f _ _ (opens used b (s, c) h pass))
-  follow-keeps (Lists c) used b on h f =
-      reply-keeps P (changeQuestions b c) refusal _ refuses (λ pass. f _ _ (lists used b c h pass))
+  follow-keeps (Lists c) used b on says h f =
+      reply-keeps P (changeQuestions b c) refusal _ refuses (λ pass. f _ _ (lists used b c h says pass))
 
-  pub read-keeps : (skip : ℕ) (s : List ℕ) (used : ℕ) (b : Book) → SoFar (used + skip) b → P (readFrom skip s used b)
+  pub read-keeps : (skip : ℕ) (s : List ℕ) (used : ℕ) (b : Book) → ((i : ℕ) → Says (recordAt (drop i s)))
+      → SoFar (used + skip) b → P (readFrom skip s used b)
   unfolding readFrom
-  read-keeps skip [] used b h = refuses 30
-  read-keeps (suc skip) (x ∷ xs) used b h =
+  read-keeps skip [] used b says h = refuses 30
+  read-keeps (suc skip) (x ∷ xs) used b says h =
       let e : used + suc skip ≡ used + 1 + skip = omega arith in
-      read-keeps skip xs (used + 1) b (rw e at h)
-  read-keeps zero (x ∷ xs) used b h =
+      read-keeps skip xs (used + 1) b (λ i. says (suc i)) (rw e at h)
+  read-keeps zero (x ∷ xs) used b says h =
       let z : used + 0 ≡ used = omega arith in
-      follow-keeps (recordAt (x ∷ xs)) used b _ (rw z at h)
+      follow-keeps (recordAt (x ∷ xs)) used b _ (says 0) (rw z at h)
       (λ skip next k. let e : used + suc skip ≡ used + 1 + skip = omega arith in
-      read-keeps skip xs (used + 1) next (rw e at k))
+      read-keeps skip xs (used + 1) next (λ i. says (suc i)) (rw e at k))
+
+-- and so has every reading of all bytes
+pub whole-keeps : (P : Outcome → Type 0) → ((k : ℕ) → P (refusal k)) → (n : ℕ) (r : Outcome) → P r → P (whole n r)
+whole-keeps P refuses n r h =
+    pick-keeps P (eqb (r .answer) 0) _ r
+    (λ e. reply-keeps P ((38, eqb (r .used) n) ∷ []) refusal r refuses (λ pass. h)) (λ e. h)
 
 -- a store that reading leaves
 abbrev Left : Outcome → Type 0
@@ -286,12 +293,9 @@ refusal-left k = book-stored noPlans none-ok
 -- so every reading leaves a stored playbook, refused or not
 pub read-first-stored : (s : List ℕ) → storedOk (readFirst s .playbook) ≡ true
 read-first-stored s =
-    read-keeps Left (λ used b. bookOk b ≡ true) refusal-left (λ used b h. book-stored b h)
-    (λ used b t h pass. plan-kept b t h pass) (λ used b c h pass. change-kept b c h pass) 0 s 0 noPlans none-ok
+    read-keeps Left (λ used b. bookOk b ≡ true) (λ r. Unit {0}) refusal-left (λ used b h. book-stored b h)
+    (λ used b t h pass. plan-kept b t h pass) (λ used b c h says pass. change-kept b c h pass) 0 s 0 noPlans (λ i. tt)
+    none-ok
 
 pub read-stored : (s : List ℕ) → storedOk (readWhole s .playbook) ≡ true
-read-stored s =
-    let first = read-first-stored s in
-    let all = eqb (readFirst s .used) (length s) in
-    by-bool (eqb (readFirst s .answer) 0)
-    (λ e. rw e (reply-keeps Left ((38, all) ∷ []) refusal _ refusal-left (λ pass. first))) (λ e. rw e first)
+read-stored s = whole-keeps Left refusal-left (length s) (readFirst s) (read-first-stored s)

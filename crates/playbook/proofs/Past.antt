@@ -11,7 +11,7 @@ use lib.ListN.{length, drop, length-drop, drop-of-length-le}
 use lib.Seq.{drop-drop}
 use Rattle.lists.specs.Bytes.{byteAt}
 use Rattle.answer.specs.Ask.{Question, reply, firstNo, pick}
-use Rattle.answer.proofs.Asked.{none-asked, asked, From, all-yes, stopped}
+use Rattle.answer.proofs.Asked.{none-asked, asked, From, all-yes, stopped, answered, reply-keeps}
 use Rattle.playbook.specs.Limits.{planKind, changeKind, planSize, changeSize, endSize}
 use Rattle.playbook.specs.Books.{Book, meaning, Trigger, withPlan, withChange}
 use Rattle.playbook.specs.Books.{planQuestions, changeQuestions, taken, openPlan, listChange}
@@ -33,6 +33,23 @@ unfolding recordAt
 whole-record l kind first k n =
     rw first (asked Refused _ 31 _ _ k ∙ asked Refused _ 30 _ _ (le-leb _ _ n) ∙ none-asked Refused _)
 
+-- the record at the front of bytes: refused, or of a kind whose bytes are there
+pub record-keeps : (P : Record → Type 0) (s : List ℕ) → ((k : ℕ) → P (Refused k))
+    → (planSize ≤ length s → P (Opens (byteAt s 1) (byteAt s 2))) → (changeSize ≤ length s → P (Lists (changeOf s)))
+    → (endSize ≤ length s → P Ends) → P (recordAt s)
+unfolding recordAt
+record-keeps P s refused opens lists ends =
+    let kind = byteAt s 0 in
+    let qs : List Question = (31, isKind kind) ∷ (30, leb (sizeOf kind) (length s)) ∷ [] in
+    reply-keeps P qs Refused (recordOf kind s) refused
+    (λ pass. known (eqb kind planKind) (eqb kind changeKind) (leb-true _ _ (answered qs refl pass 30)))
+  where
+    known : (plan change : Bool) → pick plan planSize (pick change changeSize endSize) ≤ length s
+        → P (pick plan (Opens (byteAt s 1) (byteAt s 2)) (pick change (Lists (changeOf s)) Ends))
+    known true change h = opens h
+    known false true h = lists h
+    known false false h = ends h
+
 -- how many bytes a record has; what is found at the front of bytes has no more than these
 abbrev bytesIn : Record → ℕ
 bytesIn (Refused k) = 0
@@ -41,23 +58,7 @@ bytesIn (Opens s c) = planSize
 bytesIn (Lists c) = changeSize
 
 record-fits : (s : List ℕ) → bytesIn (recordAt s) ≤ length s
-unfolding recordAt reply
-record-fits s =
-    let kind = byteAt s 0 in
-    asks (isKind kind) (leb (sizeOf kind) (length s)) (recordOf kind s)
-    (λ e. known (eqb kind planKind) (eqb kind changeKind) (leb-true _ _ e))
-  where
-    known : (plan change : Bool) → pick plan planSize (pick change changeSize endSize) ≤ length s
-        → bytesIn (pick plan (Opens (byteAt s 1) (byteAt s 2)) (pick change (Lists (changeOf s)) Ends)) ≤ length s
-    known true change h = h
-    known false true h = h
-    known false false h = h
-
-    asks : (kind whole : Bool) (r : Record) → (whole ≡ true → bytesIn r ≤ length s)
-        → bytesIn (pick kind (pick whole r (Refused 30)) (Refused 31)) ≤ length s
-    asks true true r h = h refl
-    asks true false r h = omega arith
-    asks false whole r h = omega arith
+record-fits s = record-keeps (λ r. bytesIn r ≤ length s) s (λ k. omega arith) (λ h. h) (λ h. h) (λ h. h)
 
 -- past the bytes of the record at hand
 past : (k : ℕ) (xs : List ℕ) (used : ℕ) (b : Book) → readFrom k xs used b ≡ readFrom 0 (drop k xs) (used + k) b

@@ -6,14 +6,14 @@ use mathlib.Core.Bool.{Bool, true}
 use mathlib.Core.List.{List}
 use Prim.Native.Nat.{ℕ, _+_, _*_, _^_, _≤_, _<_}
 use lib.Dec.{ltb}
-use lib.ListN.{length}
+use lib.ListN.{length, take, drop}
 use borrow.Author.Tests.{ltb-true, leb-true, eqb-true}
 use Rattle.answer.specs.Ask.{Question, firstNo}
 use Rattle.answer.proofs.Asked.{reply-ap, all-yes, some-no, answered, reply-keeps}
 use Rattle.message.specs.Keys.{keyLength, keyAt}
-use Rattle.message.specs.Writing.{lengthOf, isMessage, portSaid, InRange}
+use Rattle.message.specs.Writing.{encode, lengthOf, isMessage, portSaid, placed, InRange}
 use Rattle.message.specs.declared.Message.{Message}
-use Rattle.message.proofs.Written.{Sent, sent as message-sent}
+use Rattle.message.proofs.Written.{Sent, placed-message, sent as message-sent}
 use Rattle.switch.specs.States.{switchOk}
 use Rattle.switch.specs.Writing.{eventFor, acknowledgementFor, writeQuestions, written}
 use Rattle.switch.specs.Writing.{eventWritten, acknowledgementWritten}
@@ -60,12 +60,18 @@ module _ (s : Switch) (keys : List ℕ) (c : ℕ) (m : Message) (there : Bool) (
           something = yes 26;
         }
 
+    frame-is : written s keys c m there frame at .1 ≡ placed (encode (keyAt keys c) m) frame at
+    unfolding written
+    frame-is = ap (λ (r : Reply × List ℕ). r .1) (all-yes questions _ _ refl (sym answer-is ∙ h))
+
+    -- the bytes are the message's, be its numbers in range or not
+    pub sent-bytes : take (lengthOf m) (drop at (written s keys c m there frame at .1)) ≡ encode (keyAt keys c) m
+    sent-bytes = rw frame-is (placed-message (keyAt keys c) m frame at (allowed .room))
+
+    -- and in range, they are read as it
     pub sent : isMessage m ≡ true → portSaid m ≡ true → InRange m
         → Sent (keyAt keys c) m frame at (written s keys c m there frame at .1)
-    unfolding written
-    sent y p r =
-        rw (all-yes questions _ _ refl (sym answer-is ∙ h))
-        (message-sent (keyAt keys c) m frame at y p r (allowed .room))
+    sent y p r = rw frame-is (message-sent (keyAt keys c) m frame at y p r (allowed .room))
 
 module _ (s : Switch) (keys : List ℕ) (c : ℕ) (frame : List ℕ) (at : ℕ) where
   -- an acknowledgement, with the last applied number
