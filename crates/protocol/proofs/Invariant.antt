@@ -1,0 +1,100 @@
+-- What holds between calls. A number is sound at a switch where it is agreed there, with its content, and all that it
+-- waits for is applied. Whatever a controller that keeps the rules wrote, or has in a slot, is sound; a quorum has such
+-- a member; so what is applied is sound, and nothing is skipped. Assumes nothing.
+use mathlib.Core.Path.{_≡_, refl, subst}
+use mathlib.Core.Bool.{true, false}
+use mathlib.Core.List.{List·Memᴰ, List·Memᴰ·not-nil}
+use Prim.Native.Nat.{ℕ, _≤_, _<_}
+use native.Mathlib.Omega.{arith}
+use borrow.Author.Tests.{eqb-true}
+use Rattle.answer.proofs.Bools.{tf, is-false, and-parts}
+use Rattle.lists.specs.Kinds.{among}
+use Rattle.protocol.specs.Ends.{Domain, Slot, slotFor, holds, agreeing}
+use Rattle.protocol.specs.Worlds.{Message, share, acknowledgement, World, start, Agreed}
+use Rattle.protocol.specs.Claims.{Laws, isAmong, numbers, tableAfter, Safe}
+use Rattle.protocol.proofs.Families.{pigeon, count-none}
+
+module _ {Content Table : Type 0} where
+  -- the last applied numbers
+  abbrev pub lasts : World Content Table → ℕ → ℕ
+  lasts w s = w .switches s .last
+
+  module _ (D : Domain Content Table) where
+    pub record Sound (a : ℕ → ℕ) (s k : ℕ) (x : Content) : Type 0 where
+      pub agreed : Agreed D k
+      pub on : D .switch k ≡ s
+      pub carries : D .content k ≡ x
+      pub free : (j : ℕ) → D .waits k j ≡ true → j ≤ a (D .switch j)
+
+    pub sound-grows : {a b : ℕ → ℕ} {s k : ℕ} {x : Content} → ((t : ℕ) → a t ≤ b t) → Sound a s k x → Sound b s k x
+    sound-grows h g = record {
+      agreed = g .agreed;
+      on = g .on;
+      carries = g .carries;
+      free = λ j e. omega (arith, g .free j e, h (D .switch j));
+    }
+
+    -- a share is sound, and an acknowledgement not above what is applied
+    abbrev pub SoundMessage : (ℕ → ℕ) → Message Content → Type 0
+    SoundMessage a (share c s k x) = Sound a s k x
+    SoundMessage a (acknowledgement s c k) = k ≤ a s
+
+    pub message-grows : {a b : ℕ → ℕ} → ((t : ℕ) → a t ≤ b t) → (m : Message Content) → SoundMessage a m
+        → SoundMessage b m
+    message-grows h (share c s k x) g = sound-grows h g
+    message-grows h (acknowledgement s c k) g = omega (arith, h s)
+
+    -- a slot is empty, or above the last applied number, and sound if its controller keeps the rules
+    abbrev pub SoundSlot : (ℕ → ℕ) → ℕ → ℕ → Slot Content → Type 0
+    SoundSlot a s c slot = 0 < slot .number
+        → (a s < slot .number) × (D .strays c ≡ false → Sound a s (slot .number) (slot .content))
+
+    pub record Invariant (w : World Content Table) : Type 0 where
+      pub given : (c : ℕ) → w .controllers c .last ≤ D .total
+      pub behind : (c s : ℕ) → w .controllers c .acknowledged s ≤ lasts w s
+      pub written : (m : Message Content) → List·Memᴰ m (w .written) → SoundMessage (lasts w) m
+      pub held : (s c : ℕ) → SoundSlot (lasts w) s c (w .switches s .slots c)
+      pub short : (s k : ℕ) (x : Content) → 0 < k → agreeing D k x (w .switches s .slots) < D .quorum
+      pub safe : Safe D (w .switches) (w .made)
+      pub all-made : (k : ℕ) → Agreed D k → k ≤ lasts w (D .switch k) → isAmong D k (numbers D (w .made)) ≡ true
+
+    module _ (L : Laws D) where
+      -- a slot that holds a number and content
+      pub holds-sound : (k : ℕ) (x : Content) (slot : Slot Content) → holds D k x slot ≡ true
+          → (slot .number ≡ k) × (slot .content ≡ x)
+      holds-sound k x slot h =
+          let t = and-parts _ (D .same (slot .content) x) h in
+          (eqb-true _ _ (t .0), L .same-sound _ _ (t .1))
+
+      -- nothing has happened yet
+      pub start-invariant : Invariant (start D)
+      unfolding tableAfter among
+      start-invariant = record {
+        given = λ c. omega arith;
+        behind = λ c s. omega arith;
+        written = λ m h. absurd (List·Memᴰ·not-nil h);
+        held = λ s c h. absurd (omega arith);
+        short = λ s k x h.
+            let none = count-none (D .controllers) (λ c. holds D k x (slotFor 0 (D .none)))
+            (λ c l. is-false _ (λ e. omega (arith, holds-sound k x (slotFor 0 (D .none)) e .0))) in
+            omega (arith, L .too-few);
+        safe = record {
+          carried = λ m h. absurd (List·Memᴰ·not-nil h);
+          lawful = tt;
+          tables = λ s. refl;
+          highest = λ k h. tf h refl;
+          lasts = λ s h. absurd (omega arith);
+        };
+        all-made = λ k g h. absurd (omega (arith, g .0));
+      }
+
+      -- a quorum has a member that keeps the rules, so what it holds is sound
+      pub quorum-sound : (a : ℕ → ℕ) (s : ℕ) (slots : ℕ → Slot Content) (k : ℕ) (x : Content)
+          → ((c : ℕ) → SoundSlot a s c (slots c)) → 0 < k → D .quorum ≤ agreeing D k x slots → Sound a s k x
+      quorum-sound a s slots k x held positive quorum =
+          let member = pigeon (D .controllers) (λ c. holds D k x (slots c)) (D .strays) (omega (arith, L .too-few)) in
+          let c = member .0 in
+          let is = holds-sound k x (slots c) (member .2) in
+          let g = held c (rw (is .0) positive) .1 (member .3) in
+          subst (λ (y : Content). Sound a s k y) (is .1)
+          (subst (λ (i : ℕ). Sound a s i (slots c .content)) (is .0) g)

@@ -1,0 +1,45 @@
+-- Laws of runs: a run of two lists is one after the other, what every allowed call keeps, a run keeps, and what a
+-- delivery brings about, a run has that contains the delivery. Assumes nothing.
+use mathlib.Core.Path.{_≡_, refl}
+use mathlib.Core.List.{List, [], _∷_, _++_, List·Memᴰ, List·Memᴰ·cases-cons, List·Memᴰ·not-nil}
+use mathlib.Core.Logic.{⊎-elim}
+use Rattle.protocol.specs.Runs.{run, Every, Sometime}
+
+module _ {State Call : Type 0} (step : State → Call → State) where
+  pub run-append : (r : State) (xs ys : List Call) → run step r (xs ++ ys) ≡ run step (run step r xs) ys
+  run-append r [] ys = refl
+  run-append r (x ∷ xs) ys = run-append (step r x) xs ys
+
+  module _ (P : State → Call → Type 0) where
+    pub every-append : (r : State) (xs ys : List Call) → Every step P r (xs ++ ys)
+        → Every step P r xs × Every step P (run step r xs) ys
+    every-append r [] ys h = (tt, h)
+    every-append r (x ∷ xs) ys h = let t = every-append (step r x) xs ys (h .1) in ((h .0, t .0), t .1)
+
+    -- what each call of which P holds keeps, a list of such calls keeps
+    abbrev pub Keeps : (State → Type 0) → Type 0
+    Keeps Q = (r : State) (x : Call) → P r x → Q r → Q (step r x)
+
+    pub run-keeps : (Q : State → Type 0) → Keeps Q → (r : State) (xs : List Call) → Every step P r xs → Q r
+        → Q (run step r xs)
+    run-keeps Q keep r [] h q = q
+    run-keeps Q keep r (x ∷ xs) h q = run-keeps Q keep (step r x) xs (h .1) (keep r x (h .0) q)
+
+    -- a call y among the list brings Q about wherever B holds, which all calls keep
+    pub reached : (B Q : State → Type 0) → Keeps B → Keeps Q → (y : Call)
+        → ((r : State) → P r y → B r → Q (step r y))
+        → (r : State) (xs : List Call) → Every step P r xs → B r → List·Memᴰ y xs → Q (run step r xs)
+    reached B Q keepB keepQ y hit r [] h b m = absurd (List·Memᴰ·not-nil m)
+    reached B Q keepB keepQ y hit r (x ∷ xs) h b m =
+        ⊎-elim
+        (λ e. run-keeps Q keepQ (step r x) xs (h .1) (rw e at (hit r (rw (← e) at (h .0)) b)))
+        (λ t. reached B Q keepB keepQ y hit (step r x) xs (h .1) (keepB r x (h .0) b) t) (List·Memᴰ·cases-cons m)
+
+    -- a moment of the list, from which on the calls that are left bring Q about
+    pub sometime : (B Q : State → Type 0) (S : State → List Call → Type 0) → Keeps B
+        → ((r : State) (xs : List Call) → Every step P r xs → B r → S r xs → Q (run step r xs))
+        → (r : State) (xs : List Call) → Every step P r xs → B r → Sometime step S r xs → Q (run step r xs)
+    sometime B Q S keepB moment r [] h b m = moment r [] h b m
+    sometime B Q S keepB moment r (x ∷ xs) h b m =
+        ⊎-elim (λ s. moment r (x ∷ xs) h b s)
+        (λ t. sometime B Q S keepB moment (step r x) xs (h .1) (keepB r x (h .0) b) t) m
