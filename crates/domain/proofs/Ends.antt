@@ -1,0 +1,215 @@
+-- What holds of the ends between calls besides the protocol's invariant: they pass question 20, and a controller that
+-- keeps the rules has come along the agreed list as far as it was brought decisions: it holds those of the agreed
+-- changes so far that are not done. Assumes nothing.
+use mathlib.Core.Path.{_≡_, refl, sym, ap, _∙_}
+use mathlib.Core.Bool.{true, not}
+use mathlib.Core.List.{List, [], _∷_, _++_, append-nil}
+use Prim.Native.Nat.{ℕ, _+_, _≤_, _<_}
+use native.Mathlib.Omega.{arith}
+use lib.Dec.{ltb, leb, eqb}
+use lib.ListN.{length, getD, set, length-append, length-set}
+use borrow.Author.Tests.{leb-true, lt-ltb, le-leb, eq-eqb, ne-eqb}
+use Rattle.answer.specs.Ask.{reply}
+use Rattle.answer.proofs.Asked.{asked, none-asked}
+use Rattle.answer.proofs.Bools.{by-bool}
+use Rattle.lists.specs.Counts.{passing}
+use Rattle.playbook.proofs.Kept.{read-stored}
+use Rattle.switch.specs.States as switch
+use Rattle.switch.specs.States.{switchOk}
+use Rattle.switch.specs.Calls as switch-calls
+use Rattle.switch.specs.declared.Switch.{Switch}
+use Rattle.switch.proofs.Kept as switch-kept
+use Rattle.switch.proofs.Once.{Quiet, setup-quiet, call-quiet}
+use Rattle.controller.specs.Changes.{meaning, stillUndone}
+use Rattle.controller.specs.States as controller
+use Rattle.controller.specs.States.{unchanged, controllerOk}
+use Rattle.controller.specs.Acknowledgements.{serialOf}
+use Rattle.controller.specs.Receiving.{receivedBy}
+use Rattle.controller.specs.Decisions.{givenBy, heldAfter, decided, decidedBy}
+use Rattle.controller.specs.Writing.{shareWritten}
+use Rattle.controller.specs.Calls as controller-calls
+use Rattle.controller.specs.declared.Controller.{Controller}
+use Rattle.controller.specs.declared.Reply.{Reply}
+use Rattle.controller.specs.declared.Undone.{Undone}
+use Rattle.controller.proofs.Effects.{acknowledge-leaves, decided-leaves}
+use Rattle.controller.proofs.Kept as controller-kept
+use Rattle.controller.proofs.Sent.{written-state}
+use Rattle.controller.proofs.Taken.{Received, refused, offered, repeated, acknowledged, received}
+use Rattle.domain.specs.Settings.{Decision, Setting, Valid, playbook}
+use Rattle.domain.specs.Calls.{atController}
+use Rattle.domain.specs.Premises.{decisionIn}
+use Rattle.domain.specs.Agreement.{Course, beginning, next, advance, along}
+use Rattle.domain.proofs.Courses.{along-append}
+
+module _ (S : Setting) where
+  -- switch s
+  pub record SwitchFine (s : ℕ) (t : Switch) : Type 0 where
+    pub id : t .id ≡ s
+    pub n : t .n ≡ S .n
+    pub ok : switchOk t ≡ true
+    pub quiet : Quiet t
+
+  pub switch-start : Valid S → (s : ℕ) → s < 16 → SwitchFine s (switch.setupOf s (S .n) .state)
+  switch-start v s l =
+      let yes : switch.inRange s (S .n) ≡ true =
+      rw (lt-ltb s 16 l, le-leb 1 (S .n) (v .some), le-leb (S .n) 16 (v .few)) in
+      let is : switch.setupOf s (S .n) ≡ switch.unchanged (switch.fresh s (S .n)) 0 =
+      asked _ _ 20 _ [] yes ∙ none-asked _ _ in
+      record {
+        id = rw is;
+        n = rw is;
+        ok = switch-kept.setup-kept s (S .n) (rw is);
+        quiet = setup-quiet s (S .n);
+      }
+
+  pub switch-after : (keys : List ℕ) (s : ℕ) (t : Switch) (x : switch-calls.Call) → SwitchFine s t
+      → SwitchFine s (switch-calls.replyTo keys t x .state)
+  switch-after keys s t x f =
+      let names = switch-kept.call-names keys t x in
+      record {
+        id = names .0 ∙ f .id;
+        n = names .1 ∙ f .n;
+        ok = switch-kept.call-kept keys t x (f .ok);
+        quiet = call-quiet keys t x (f .quiet);
+      }
+
+  -- a controller that has come along the list as far as a
+  pub record Follows (a : Course) (t : Controller) : Type 0 where
+    pub serials : t .serials ≡ a .serials
+    pub last : t .last ≡ length (a .changes)
+    pub undone : meaning (t .undone) ≡ stillUndone (t .acknowledged) (a .changes)
+
+  abbrev pub courseOf : List Decision → Course
+  courseOf ds = along (playbook S) beginning ds
+
+  -- controller c, brought the decisions ds
+  pub record ControllerFine (c : ℕ) (ds : List Decision) (t : Controller) : Type 0 where
+    pub id : t .id ≡ c
+    pub book : t .playbook ≡ playbook S
+    pub ok : controllerOk t ≡ true
+    pub long : length (t .acknowledged) ≡ 16
+    pub follows : Follows (courseOf ds) t
+
+  pub controller-start : Valid S → (c : ℕ) → c < S .n
+      → ControllerFine c [] (controller.setupOf c (S .n) (playbook S) .state)
+  unfolding passing
+  controller-start v c l =
+      let yes : controller.inRange c (S .n) ≡ true =
+      rw (le-leb 1 (S .n) (v .some), le-leb (S .n) 16 (v .few), lt-ltb c (S .n) l) in
+      let is : controller.setupOf c (S .n) (playbook S) ≡ unchanged (controller.fresh c (S .n) (playbook S)) 0 =
+      asked _ _ 20 _ [] yes ∙ none-asked _ _ in
+      record {
+        id = rw is;
+        book = rw is;
+        ok = controller-kept.setup-kept c (S .n) (playbook S) (rw is) (read-stored (S .book));
+        long = rw is;
+        follows = rw is (record { serials = refl; last = refl; undone = refl });
+      }
+
+  module _ (c : ℕ) (ds : List Decision) (t : Controller) (f : ControllerFine c ds t) where
+    -- what is received: an acknowledgement taken, or the state stays
+    received-after : (keys bytes : List ℕ) {r : Reply} → Received t keys bytes r → ControllerFine c ds (r .state)
+    received-after keys bytes (refused l) = f
+    received-after keys bytes (offered a above) = f
+    received-after keys bytes (repeated a old) = f
+    received-after keys bytes (acknowledged {s} {number} a above) = record {
+      id = f .id;
+      book = f .book;
+      ok = controller-kept.acknowledge-kept t (f .ok) s number;
+      long = length-set (t .acknowledged) s number ∙ f .long;
+      follows = record {
+        serials = f .follows .serials;
+        last = f .follows .last;
+        undone = acknowledge-leaves t (courseOf ds .changes) (f .follows .undone) s number (f .ok) (omega arith);
+      };
+    }
+
+    pub reception-after : (keys bytes : List ℕ) → ControllerFine c ds (receivedBy t keys bytes .state)
+    reception-after keys bytes = received-after keys bytes (received t keys bytes)
+
+    pub writing-after : (keys : List ℕ) (s : ℕ) (frame : List ℕ) (at : ℕ)
+        → ControllerFine c ds (shareWritten t keys s frame at .0 .state)
+    writing-after keys s frame at = rw (written-state t keys s frame at) f
+
+    -- a decision: taken, refused for want of room, or refused by 12, 22 or 23, and then the agreed list gives nothing
+    module _ (s serial cause : ℕ) where
+      abbrev decision : Decision
+      decision = record { switch = s; serial = serial; cause = cause }
+
+      abbrev course : Course
+      course = courseOf ds
+
+      abbrev onward : Course
+      onward = record {
+        serials = set (course .serials) s serial;
+        changes = course .changes ++ next (playbook S) course decision;
+      }
+
+      given-is : givenBy t (s, cause) ≡ next (playbook S) course decision
+      given-is = rw (f .book, f .follows .last)
+
+      pub by-decision : {C : Type 0}
+          → (length (heldAfter t (s, cause)) ≤ 64 → decidedBy t s serial cause ≡ unchanged (decided t s serial cause) 0
+          → advance (playbook S) course decision ≡ onward → C)
+          → (decidedBy t s serial cause ≡ unchanged t 24 → C)
+          → ((q : ℕ) → (q ≡ 0 → ⊥) → (q ≡ 24 → ⊥) → decidedBy t s serial cause ≡ unchanged t q
+          → advance (playbook S) course decision ≡ course → C)
+          → C
+      unfolding decidedBy reply
+      by-decision taken full declined =
+          let few = leb (t .last + length (givenBy t (s, cause))) 4294967295 in
+          let few-is : few ≡ leb (length (course .changes) + length (next (playbook S) course decision)) 4294967295 =
+          rw (given-is, f .follows .last) in
+          let new-is : ltb (serialOf t s) serial ≡ ltb (getD (course .serials) s 0) serial = rw (f .follows .serials) in
+          by-bool (ltb s 16)
+          (λ e. by-bool (ltb (serialOf t s) serial)
+          (λ e2. by-bool few
+          (λ e3. by-bool (leb (length (heldAfter t (s, cause))) 64)
+          (λ e4. taken (leb-true _ _ e4) (rw (f .ok, e, e2, e3, e4)) (rw (e, sym new-is ∙ e2, sym few-is ∙ e3)))
+          (λ e4. full (rw (f .ok, e, e2, e3, e4))))
+          (λ e3. declined 23 (λ z. omega arith) (λ z. omega arith) (rw (f .ok, e, e2, e3))
+          (rw (e, sym new-is ∙ e2, sym few-is ∙ e3))))
+          (λ e2. declined 22 (λ z. omega arith) (λ z. omega arith) (rw (f .ok, e, e2)) (rw (e, sym new-is ∙ e2))))
+          (λ e. declined 12 (λ z. omega arith) (λ z. omega arith) (rw (f .ok, e)) (rw e))
+
+      -- what is then brought so far
+      abbrev more : List Decision
+      more = decisionIn (λ answer. not (eqb answer 24)) c (decidedBy t s serial cause .answer)
+          (atController c (controller-calls.decides s serial cause))
+
+      one-more : courseOf (ds ++ decision ∷ []) ≡ advance (playbook S) course decision
+      one-more = along-append (playbook S) beginning ds (decision ∷ [])
+
+      brought-more : (q : ℕ) → (q ≡ 24 → ⊥) → decidedBy t s serial cause .answer ≡ q → more ≡ decision ∷ []
+      brought-more q other e = rw (e, eq-eqb c c refl, ne-eqb q 24 other)
+
+      pub decision-after : ControllerFine c (ds ++ more) (decidedBy t s serial cause .state)
+      decision-after =
+          by-decision
+          (λ room is on.
+          let list = ap (λ (l : List Decision). ds ++ l)
+          (brought-more 0 (λ z. omega arith) (ap (λ (r : Reply). r .answer) is)) in
+          rw (list, is) (record {
+            id = f .id;
+            book = f .book;
+            ok = controller-kept.decided-kept t (f .ok) s serial cause room;
+            long = f .long;
+            follows = rw (one-more ∙ on) (record {
+              serials = ap (λ (l : List ℕ). set l s serial) (f .follows .serials);
+              last = rw (length-append, given-is, f .follows .last);
+              undone = decided-leaves t (course .changes) (f .follows .undone) s serial cause room
+                  ∙ ap (λ (l : List Undone). stillUndone (t .acknowledged) (course .changes ++ l)) given-is;
+            });
+          }))
+          (λ is.
+          let none : more ≡ [] = rw (is, eq-eqb c c refl) in
+          rw (none, append-nil, is) f)
+          (λ q n m is on.
+          let list = ap (λ (l : List Decision). ds ++ l) (brought-more q m (ap (λ (r : Reply). r .answer) is)) in
+          rw (list, is) (record {
+            id = f .id;
+            book = f .book;
+            ok = f .ok;
+            long = f .long;
+            follows = rw (one-more ∙ on) (f .follows);
+          }))

@@ -1,0 +1,113 @@
+-- A share at a switch is what it is in the protocol: the slots seen one by one, those that agree counted among the n
+-- controllers, and every answer with its state. Assumes nothing.
+use mathlib.Core.Path.{_≡_, refl, sym, ap, _∙_}
+use mathlib.Core.Bool.{true, false}
+use mathlib.Core.List.{List}
+use Prim.Native.Nat.{ℕ, _+_, _-_, _≤_, _<_}
+use native.Mathlib.Omega.{arith}
+use lib.Count.{ones}
+use lib.Dec.{leb, eqb}
+use lib.ListN.{length, getD, drop, length-set, length-drop}
+use lib.Seq.{getD-set-same, getD-set-other, getD-drop}
+use borrow.Author.Tests.{ltb-true, eqb-true, ne-eqb}
+use Rattle.answer.proofs.Asked.{asked, reply-ap, reply-same, answered}
+use Rattle.answer.proofs.Bools.{by-bool, by-eq, and-parts, pick-ap}
+use Rattle.lists.specs.Arrays.{every}
+use Rattle.lists.proofs.Tails.{every-at}
+use Rattle.flow.specs.Rules.{wellFormed}
+use Rattle.flow.specs.declared.Rule.{Rule}
+use Rattle.flow.specs.declared.Table.{Table}
+use Rattle.switch.specs.Slots.{slotFor, emptySlot, slotEmpty, holds, agreeing, isQuorum, emptied}
+use Rattle.switch.specs.States.{unchanged, switchOk}
+use Rattle.switch.specs.Shares.{slotOf, shareQuestions, stored, applied, taken, takeShare}
+use Rattle.switch.specs.declared.Slot.{Slot}
+use Rattle.switch.specs.declared.Switch.{Switch}
+use Rattle.switch.proofs.Agreement.{agreeing-count}
+use Rattle.switch.proofs.Effects.{emptied-at}
+use Rattle.switch.proofs.Kept.{stored-kept}
+use Rattle.switch.proofs.Within.{within}
+use Rattle.protocol.specs.Families.{upd, countBelow}
+use Rattle.protocol.specs.Ends as protocol
+use Rattle.protocol.proofs.Families.{upd-same, upd-other, count-fewer, count-places}
+use Rattle.domain.specs.Settings.{Setting}
+use Rattle.domain.proofs.View.{domainOf, viewSlot, viewSwitch, viewReply}
+
+-- a slot that is empty holds no number above 0
+empty-holds : (k : ℕ) (rule : Rule) (slot : Slot) → 0 < k → slotEmpty slot ≡ true → holds k rule slot ≡ false
+empty-holds k rule slot positive h =
+    let zero = eqb-true (slot .number) 0 (and-parts (eqb (slot .number) 0) _ h .0) in
+    rw (ne-eqb (slot .number) k (λ e. omega arith))
+
+-- those that agree in sixteen slots, of which the first n are in use
+counted-below : (k : ℕ) (rule : Rule) (slots : List Slot) (n : ℕ) → 0 < k → length slots ≡ 16 → n ≤ 16
+    → every slotEmpty (drop n slots) ≡ true
+    → ones (agreeing k rule slots) ≡ countBelow n (λ i. holds k rule (getD slots i emptySlot))
+counted-below k rule slots n positive long few unused =
+    agreeing-count k rule slots
+    ∙ count-places (holds k rule) slots emptySlot
+    ∙ rw long
+    (count-fewer n 16 (λ i. holds k rule (getD slots i emptySlot)) few
+    (λ i low high.
+    let e : n + (i - n) ≡ i = omega arith in
+    let inside : i - n < length (drop n slots) = rw length-drop (omega arith) in
+    let slot = every-at slotEmpty (drop n slots) (i - n) emptySlot unused inside in
+    empty-holds k rule (getD slots i emptySlot) positive (rw (getD-drop n slots (i - n) emptySlot, e) at slot)))
+
+module _ (S : Setting) (t : Switch) (ok : switchOk t ≡ true) (n : t .n ≡ S .n) (long : length (t .slots) ≡ 16)
+    (c : ℕ) (known : c < t .n) (k : ℕ) (rule : Rule) where
+  abbrev D : protocol.Domain Rule Table
+  D = domainOf S
+
+  -- the slots with the share in its sender's
+  stored-slot : (i : ℕ) → viewSlot (slotOf (stored t c k rule) i)
+      ≡ upd (λ i. viewSlot (slotOf t i)) c (protocol.slotFor k rule) i
+  stored-slot i =
+      by-eq c i
+      (λ e. rw (← e, upd-same) (ap viewSlot (getD-set-same (t .slots) c (slotFor k rule) emptySlot
+      (omega (arith, within t ok .few)))))
+      (λ other. rw (upd-other (λ i. viewSlot (slotOf t i)) c (protocol.slotFor k rule) i other)
+      (ap viewSlot (getD-set-other (t .slots) c i (slotFor k rule) emptySlot (λ e. other (sym e)))))
+
+  stored-view : viewSwitch (stored t c k rule) ≡ protocol.stored (viewSwitch t) c k rule
+  stored-view = λ j. record { last = t .last; table = t .table; slots = λ i. stored-slot i j }
+
+  emptied-view : (slot : Slot) → viewSlot (emptied k slot) ≡ protocol.emptied D k (viewSlot slot)
+  emptied-view slot = sym (pick-ap viewSlot (leb (slot .number) k) emptySlot slot)
+
+  applied-view : viewSwitch (applied (stored t c k rule) k rule)
+      ≡ protocol.applied D (protocol.stored (viewSwitch t) c k rule) k rule
+  applied-view =
+      let slot : (i : ℕ) → viewSlot (slotOf (applied (stored t c k rule) k rule) i)
+      ≡ protocol.emptied D k (upd (λ i. viewSlot (slotOf t i)) c (protocol.slotFor k rule) i) =
+      λ i. ap viewSlot (emptied-at k (stored t c k rule .slots) i)
+      ∙ emptied-view (slotOf (stored t c k rule) i) ∙ ap (protocol.emptied D k) (stored-slot i) in
+      λ j. record { last = k; table = Rattle.flow.specs.Changes.changed rule (t .table); slots = λ i. slot i j }
+
+  -- a quorum is a quorum, for a number above the last applied one
+  module _ (above : t .last < k) where
+    quorum-view : isQuorum (t .n) k rule (stored t c k rule .slots)
+        ≡ leb (D .quorum) (protocol.agreeing D k rule (protocol.stored (viewSwitch t) c k rule .slots))
+    quorum-view =
+        let w = within (stored t c k rule) (stored-kept t c k rule ok known above) in
+        let count = counted-below k rule (stored t c k rule .slots) (t .n) (omega arith)
+        (length-set (t .slots) c (slotFor k rule) ∙ long) (w .few) (w .unused) in
+        rw (count, n) (ap (λ (slots : ℕ → protocol.Slot Rule). leb (D .quorum) (protocol.agreeing D k rule slots))
+        (λ j i. stored-slot i j))
+
+    taken-view : viewReply (taken t c k rule) ≡ protocol.taken D (viewSwitch t) c k rule
+    taken-view =
+        by-bool (holds k rule (slotOf t c)) (λ e. rw e)
+        (λ e. rw (e, quorum-view) (by-bool
+        (leb (D .quorum) (protocol.agreeing D k rule (protocol.stored (viewSwitch t) c k rule .slots)))
+        (λ q. rw q (ap (λ (s : protocol.Switch Rule Table). protocol.unchanged s 1) applied-view))
+        (λ q. rw q (ap (λ (s : protocol.Switch Rule Table). protocol.unchanged s 0) stored-view))))
+
+  -- so a share with a well-formed rule is answered alike
+  pub share-view : wellFormed rule ≡ true
+      → viewReply (takeShare t c k rule) ≡ protocol.takeShare D (viewSwitch t) c k rule
+  unfolding takeShare protocol.takeShare
+  share-view formed =
+      let qs = protocol.shareQuestions D (viewSwitch t) (viewSlot (slotOf t c)) k rule in
+      ap viewReply (asked (unchanged t) (taken t c k rule) 15 _ qs formed)
+      ∙ reply-ap viewReply qs (unchanged t) (taken t c k rule)
+      ∙ reply-same qs _ _ _ (λ y. taken-view (ltb-true _ _ (answered qs refl y 16)))

@@ -1,0 +1,87 @@
+-- The calls of a run, each at one end with what the caller brings, and the run: every call gets its end's keys and the
+-- state that the last call there returned (document 01, "Controller end", the run). Assumes nothing.
+use Prim.Native.Nat.{ℕ}
+use mathlib.Core.List.{List, [], _∷_}
+use lib.ListN.{take, drop}
+use Rattle.message.specs.Layout.{eventLength, shareLength, acknowledgementLength}
+use Rattle.switch.specs.States as switch
+use Rattle.switch.specs.Writing.{eventWritten, acknowledgementWritten}
+use Rattle.switch.specs.Calls as switch-calls
+use Rattle.switch.specs.Calls.{receives, raises, writesEvent, writesAcknowledgement}
+use Rattle.switch.specs.declared.Switch.{Switch}
+use Rattle.controller.specs.States as controller
+use Rattle.controller.specs.Writing.{shareWritten}
+use Rattle.controller.specs.Calls as controller-calls
+use Rattle.controller.specs.Calls.{decides, writesShare}
+use Rattle.controller.specs.declared.Controller.{Controller}
+use Rattle.protocol.specs.Families.{upd}
+use Rattle.domain.specs.Settings.{Setting, playbook, switchKeys, controllerKeys}
+
+-- a call at a switch, with bytes, with a cause, or with a controller, a frame and an offset; and one at a controller,
+-- with bytes, with a switch, a serial and a cause, or with a switch, a frame and an offset
+pub data Call : Type 0 where
+  atSwitch : ℕ → switch-calls.Call → Call
+  atController : ℕ → controller-calls.Call → Call
+
+-- a call that was made, its answer, and what it left in its frame where a message goes
+pub record Done : Type 0 where
+  pub call : Call
+  pub answer : ℕ
+  pub written : List ℕ
+
+-- the states that the last calls returned, and the calls so far, the latest first
+pub record Run : Type 0 where
+  pub switches : ℕ → Switch
+  pub controllers : ℕ → Controller
+  pub log : List Done
+
+-- so many bytes of a frame from an offset
+abbrev pub part : ℕ → ℕ → List ℕ → List ℕ
+part size at frame = take size (drop at frame)
+
+-- what a call leaves in its frame where its message goes; nothing where it has no frame
+abbrev pub switchWrites : List ℕ → Switch → switch-calls.Call → List ℕ
+switchWrites keys s (writesEvent c frame at) = part eventLength at (eventWritten s keys c frame at .1)
+switchWrites keys s (writesAcknowledgement c frame at) =
+    part acknowledgementLength at (acknowledgementWritten s keys c frame at .1)
+switchWrites keys s (receives bytes) = []
+switchWrites keys s (raises cause) = []
+
+abbrev pub controllerWrites : List ℕ → Controller → controller-calls.Call → List ℕ
+controllerWrites keys c (writesShare s frame at) = part shareLength at (shareWritten c keys s frame at .1)
+controllerWrites keys c (controller-calls.receives bytes) = []
+controllerWrites keys c (decides s serial cause) = []
+
+module _ (S : Setting) where
+  -- fresh setups, and no call yet
+  abbrev pub start : Run
+  start = record {
+    switches = λ s. switch.setupOf s (S .n) .state;
+    controllers = λ c. controller.setupOf c (S .n) (playbook S) .state;
+    log = [];
+  }
+
+  -- one call more
+  unfoldable pub step : Run → Call → Run
+  step r (atSwitch s x) =
+      let reply = switch-calls.replyTo (switchKeys S s) (r .switches s) x in
+      record {
+        switches = upd (r .switches) s (reply .state);
+        controllers = r .controllers;
+        log = record {
+          call = atSwitch s x;
+          answer = reply .answer;
+          written = switchWrites (switchKeys S s) (r .switches s) x;
+        } ∷ r .log;
+      }
+  step r (atController c x) =
+      let reply = controller-calls.replyTo (controllerKeys S c) (r .controllers c) x in
+      record {
+        switches = r .switches;
+        controllers = upd (r .controllers) c (reply .state);
+        log = record {
+          call = atController c x;
+          answer = reply .answer;
+          written = controllerWrites (controllerKeys S c) (r .controllers c) x;
+        } ∷ r .log;
+      }
