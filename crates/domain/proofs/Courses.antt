@@ -1,15 +1,15 @@
 -- The agreed changes along a list of decisions: the change at a place has the number that follows, and is what the
 -- playbook says; numbers fit four bytes; and a longer list of decisions only adds changes behind. Assumes nothing.
 use mathlib.Core.Path.{_≡_, refl, sym, ap, _∙_}
-use mathlib.Core.Bool.{true}
+use mathlib.Core.Bool.{Bool, true, false}
 use mathlib.Core.List.{List, [], _∷_, _++_, append-nil, append-assoc}
 use Prim.Native.Nat.{ℕ, _+_, _-_, _^_, _≤_, _<_}
 use native.Mathlib.Omega.{arith}
-use lib.Dec.{ltb}
-use lib.ListN.{length, getD, length-append, List·getD-append}
+use lib.Dec.{ltb, leb}
+use lib.ListN.{length, getD, set, length-append, List·getD-append}
 use lib.Seq.{getD-append-add}
 use borrow.Author.Tests.{ltb-true, leb-true}
-use Rattle.answer.proofs.Asked.{reply-keeps, answered}
+use Rattle.answer.proofs.Asked.{none-asked, refused, asked, reply-keeps, answered}
 use Rattle.answer.proofs.Bools.{by-le, and-parts}
 use Rattle.lists.specs.Arrays.{every}
 use Rattle.lists.specs.Kinds.{among}
@@ -45,6 +45,30 @@ module _ (p : Playbook) where
   -- changes whose numbers are those from 1 on
   abbrev pub Numbered : List Undone → Type 0
   Numbered us = (i : ℕ) → i < length us → Fine (i + 1) (getD us i emptyUndone)
+
+  -- a decision that passes 12, 22 and 23, and one refused by each
+  module _ (a : Course) (d : Decision) where
+    abbrev pub onward : Course
+    onward = record { serials = set (a .serials) (d .switch) (d .serial); changes = a .changes ++ next p a d }
+
+    abbrev isNew : Bool
+    isNew = ltb (getD (a .serials) (d .switch) 0) (d .serial)
+
+    abbrev isFew : Bool
+    isFew = leb (length (a .changes) + length (next p a d)) 4294967295
+
+    pub advanced : ltb (d .switch) 16 ≡ true → isNew ≡ true → isFew ≡ true → advance p a d ≡ onward
+    advanced known new few =
+        asked _ _ 12 _ _ known ∙ asked _ _ 22 _ _ new ∙ asked _ _ 23 _ _ few ∙ none-asked _ _
+
+    pub stays-12 : ltb (d .switch) 16 ≡ false → advance p a d ≡ a
+    stays-12 unknown = refused _ _ 12 _ _ unknown
+
+    pub stays-22 : ltb (d .switch) 16 ≡ true → isNew ≡ false → advance p a d ≡ a
+    stays-22 known old = asked _ _ 12 _ _ known ∙ refused _ _ 22 _ _ old
+
+    pub stays-23 : ltb (d .switch) 16 ≡ true → isNew ≡ true → isFew ≡ false → advance p a d ≡ a
+    stays-23 known new many = asked _ _ 12 _ _ known ∙ asked _ _ 22 _ _ new ∙ refused _ _ 23 _ _ many
 
   -- a longer list of decisions
   pub along-append : (a : Course) (ds es : List Decision) → along p a (ds ++ es) ≡ along p (along p a ds) es

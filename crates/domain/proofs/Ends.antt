@@ -39,7 +39,7 @@ use Rattle.domain.specs.Settings.{Decision, Setting, Valid, playbook}
 use Rattle.domain.specs.Calls.{atController}
 use Rattle.domain.specs.Premises.{decisionIn}
 use Rattle.domain.specs.Agreement.{Course, beginning, next, advance, along}
-use Rattle.domain.proofs.Courses.{along-append}
+use Rattle.domain.proofs.Courses.{onward, advanced, stays-12, stays-22, stays-23, along-append}
 
 module _ (S : Setting) where
   -- switch s
@@ -49,12 +49,14 @@ module _ (S : Setting) where
     pub ok : switchOk t ≡ true
     pub quiet : Quiet t
 
+  pub switch-set : Valid S → (s : ℕ) → s < 16
+      → switch.setupOf s (S .n) ≡ switch.unchanged (switch.fresh s (S .n)) 0
+  switch-set v s l =
+      asked _ _ 20 _ [] (rw (lt-ltb s 16 l, le-leb 1 (S .n) (v .some), le-leb (S .n) 16 (v .few))) ∙ none-asked _ _
+
   pub switch-start : Valid S → (s : ℕ) → s < 16 → SwitchFine s (switch.setupOf s (S .n) .state)
   switch-start v s l =
-      let yes : switch.inRange s (S .n) ≡ true =
-      rw (lt-ltb s 16 l, le-leb 1 (S .n) (v .some), le-leb (S .n) 16 (v .few)) in
-      let is : switch.setupOf s (S .n) ≡ switch.unchanged (switch.fresh s (S .n)) 0 =
-      asked _ _ 20 _ [] yes ∙ none-asked _ _ in
+      let is = switch-set v s l in
       record {
         id = rw is;
         n = rw is;
@@ -90,14 +92,16 @@ module _ (S : Setting) where
     pub long : length (t .acknowledged) ≡ 16
     pub follows : Follows (courseOf ds) t
 
+  pub controller-set : Valid S → (c : ℕ) → c < S .n
+      → controller.setupOf c (S .n) (playbook S) ≡ unchanged (controller.fresh c (S .n) (playbook S)) 0
+  controller-set v c l =
+      asked _ _ 20 _ [] (rw (le-leb 1 (S .n) (v .some), le-leb (S .n) 16 (v .few), lt-ltb c (S .n) l)) ∙ none-asked _ _
+
   pub controller-start : Valid S → (c : ℕ) → c < S .n
       → ControllerFine c [] (controller.setupOf c (S .n) (playbook S) .state)
   unfolding passing
   controller-start v c l =
-      let yes : controller.inRange c (S .n) ≡ true =
-      rw (le-leb 1 (S .n) (v .some), le-leb (S .n) 16 (v .few), lt-ltb c (S .n) l) in
-      let is : controller.setupOf c (S .n) (playbook S) ≡ unchanged (controller.fresh c (S .n) (playbook S)) 0 =
-      asked _ _ 20 _ [] yes ∙ none-asked _ _ in
+      let is = controller-set v c l in
       record {
         id = rw is;
         book = rw is;
@@ -139,18 +143,12 @@ module _ (S : Setting) where
       abbrev course : Course
       course = courseOf ds
 
-      abbrev onward : Course
-      onward = record {
-        serials = set (course .serials) s serial;
-        changes = course .changes ++ next (playbook S) course decision;
-      }
-
       given-is : givenBy t (s, cause) ≡ next (playbook S) course decision
       given-is = rw (f .book, f .follows .last)
 
       pub by-decision : {C : Type 0}
           → (length (heldAfter t (s, cause)) ≤ 64 → decidedBy t s serial cause ≡ unchanged (decided t s serial cause) 0
-          → advance (playbook S) course decision ≡ onward → C)
+          → advance (playbook S) course decision ≡ onward (playbook S) course decision → C)
           → (decidedBy t s serial cause ≡ unchanged t 24 → C)
           → ((q : ℕ) → (q ≡ 0 → ⊥) → (q ≡ 24 → ⊥) → decidedBy t s serial cause ≡ unchanged t q
           → advance (playbook S) course decision ≡ course → C)
@@ -165,12 +163,15 @@ module _ (S : Setting) where
           (λ e. by-bool (ltb (serialOf t s) serial)
           (λ e2. by-bool few
           (λ e3. by-bool (leb (length (heldAfter t (s, cause))) 64)
-          (λ e4. taken (leb-true _ _ e4) (rw (f .ok, e, e2, e3, e4)) (rw (e, sym new-is ∙ e2, sym few-is ∙ e3)))
+          (λ e4. taken (leb-true _ _ e4) (rw (f .ok, e, e2, e3, e4))
+          (advanced (playbook S) course decision e (sym new-is ∙ e2) (sym few-is ∙ e3)))
           (λ e4. full (rw (f .ok, e, e2, e3, e4))))
           (λ e3. declined 23 (λ z. omega arith) (λ z. omega arith) (rw (f .ok, e, e2, e3))
-          (rw (e, sym new-is ∙ e2, sym few-is ∙ e3))))
-          (λ e2. declined 22 (λ z. omega arith) (λ z. omega arith) (rw (f .ok, e, e2)) (rw (e, sym new-is ∙ e2))))
-          (λ e. declined 12 (λ z. omega arith) (λ z. omega arith) (rw (f .ok, e)) (rw e))
+          (stays-23 (playbook S) course decision e (sym new-is ∙ e2) (sym few-is ∙ e3))))
+          (λ e2. declined 22 (λ z. omega arith) (λ z. omega arith) (rw (f .ok, e, e2))
+          (stays-22 (playbook S) course decision e (sym new-is ∙ e2))))
+          (λ e. declined 12 (λ z. omega arith) (λ z. omega arith) (rw (f .ok, e))
+          (stays-12 (playbook S) course decision e))
 
       -- what is then brought so far
       abbrev more : List Decision

@@ -1,7 +1,7 @@
 -- Fed numbers that may be made one after another, the ideal controller refuses none, and its tables are those that the
 -- protocol says they make. Assumes nothing.
-use mathlib.Core.Path.{_≡_, refl, ap}
-use mathlib.Core.Bool.{true, not, _&&_}
+use mathlib.Core.Path.{_≡_, refl, ap, _∙_}
+use mathlib.Core.Bool.{true, not}
 use mathlib.Core.List.{List, [], _∷_}
 use Prim.Native.Nat.{ℕ, _+_, _-_, _<_}
 use native.Mathlib.Omega.{arith}
@@ -19,7 +19,7 @@ use Rattle.protocol.specs.Ends as protocol
 use Rattle.protocol.specs.Claims.{Next, Lawful, tableAfter}
 use Rattle.protocol.proofs.Families.{upd-at}
 use Rattle.domain.specs.Settings.{Setting, Valid, playbook}
-use Rattle.domain.specs.Ideals.{Ideal, isAmong, isAgreed, changeOf, skipsNone, feed, fed}
+use Rattle.domain.specs.Ideals.{Ideal, isAmong, changeOf, skipsNone, accepts, feed, fed}
 use Rattle.domain.specs.Claim.{agreed}
 use Rattle.domain.proofs.View.{related, domainOf}
 use Rattle.domain.proofs.Agreed.{change-fine}
@@ -58,9 +58,10 @@ module _ (S : Setting) (v : Valid S) (ranged : InRange (playbook S)) where
   unfolding tableAfter
   feed-next k ks i n f =
       let u = changeOf (agreed S) k in
-      let yes : (isAgreed (agreed S) k && not (isAmong k (i .made)) && skipsNone (agreed S) (i .made) u) ≡ true =
-      rw (le-leb 1 k (n .agreed .0), le-leb k (length (agreed S)) (n .agreed .1), f .made, n .new)
-      (skips-none k ks n) in
+      let agreed-so = and-join _ _ (le-leb 1 k (n .agreed .0)) (le-leb k (length (agreed S)) (n .agreed .1)) in
+      let new = ap (λ (l : List ℕ). not (isAmong k l)) (f .made) ∙ ap not (n .new) in
+      let skips = ap (λ (l : List ℕ). skipsNone (agreed S) l u) (f .made) ∙ skips-none k ks n in
+      let yes : accepts (agreed S) i k ≡ true = and-join _ _ (and-join _ _ agreed-so new) skips in
       rw yes (record {
         none = f .none;
         made = ap (λ (l : List ℕ). k ∷ l) (f .made);

@@ -72,16 +72,25 @@ module _ (m : protocol-worlds.Message Rule) where
       (λ t. said-more (e .answer) (e .call) (e .written) (messages log) (said-in d says log t)) (List·Memᴰ·cases-cons h)
 
 -- what an end wrote, read as a message
+share-there : (c s : ℕ) {d : Message} {i t k : ℕ} {rule : Rule} → d ≡ Share i t k rule
+    → (l : List (protocol-worlds.Message Rule)) → List·Memᴰ (protocol-worlds.share c s k rule) (shareSaid c s d l)
+share-there c s e l = rw e (List·Memᴰ·head refl)
+
+acknowledgement-there : (s c : ℕ) {d : Message} {i t k : ℕ} → d ≡ Acknowledgement i t k
+    → (l : List (protocol-worlds.Message Rule))
+    → List·Memᴰ (protocol-worlds.acknowledgement s c k) (acknowledgementSaid s c d l)
+acknowledgement-there s c e l = rw e (List·Memᴰ·head refl)
+
 pub share-said : {log : List Done} {c s : ℕ} {bytes : List ℕ} → ControllerWrote log c s bytes → {i t k : ℕ}
     {rule : Rule} → decode ends.Switch bytes ≡ Share i t k rule
     → List·Memᴰ (protocol-worlds.share c s k rule) (messages log)
-share-said {log} (premises.share h) e = said-in _ _ (λ l. rw e (List·Memᴰ·head refl)) log h
+share-said {log} {c} {s} (premises.share h) e = said-in _ _ (share-there c s e) log h
 
 pub acknowledgement-said : {log : List Done} {s c : ℕ} {bytes : List ℕ} → SwitchWrote log s c bytes → {i t k : ℕ}
     → decode ends.Controller bytes ≡ Acknowledgement i t k
     → List·Memᴰ (protocol-worlds.acknowledgement s c k) (messages log)
-acknowledgement-said {log} (premises.event h) e = said-in _ _ (λ l. rw e (List·Memᴰ·head refl)) log h
-acknowledgement-said {log} (premises.acknowledgement h) e = said-in _ _ (λ l. rw e (List·Memᴰ·head refl)) log h
+acknowledgement-said {log} {s} {c} (premises.event h) e = said-in _ _ (acknowledgement-there s c e) log h
+acknowledgement-said {log} {s} {c} (premises.acknowledgement h) e = said-in _ _ (acknowledgement-there s c e) log h
 
 -- question 14 is the tag's own equation
 pub sealed-tagged : (key bytes : List ℕ) → isSealed key bytes ≡ true → Tagged key bytes

@@ -1,13 +1,56 @@
--- Demand 3. The first half: after every run within the premises, what the switches did is what the ideal controller
--- does. Assumes nothing.
+-- Demand 3. All ends begin from setups answered 0. The first half: after every run within the premises, what the
+-- switches did is what the ideal controller does. On the way, no call of such a run is refused by question 20, and no
+-- agreed change by question 19. Assumes nothing.
+use mathlib.Core.Path.{_≡_, ap}
+use mathlib.Core.Bool.{true}
 use mathlib.Core.List.{List}
+use Prim.Native.Nat.{ℕ, _≤_, _<_}
+use lib.ListN.{length}
+use Rattle.flow.specs.Tables.{meaning}
+use Rattle.flow.specs.Changes.{roomFor}
+use Rattle.switch.specs.States as switch
+use Rattle.switch.specs.declared.Reply as switch-reply
+use Rattle.controller.specs.States as controller
+use Rattle.controller.specs.declared.Reply as controller-reply
 use Rattle.protocol.specs.Runs.{run}
-use Rattle.domain.specs.Settings.{Setting, Valid}
-use Rattle.domain.specs.Calls.{Call, start, step}
+use Rattle.protocol.proofs.Orders.{lawful-agreed}
+use Rattle.domain.specs.Settings.{Setting, Valid, playbook, Keeps}
+use Rattle.domain.specs.Calls.{Call, Run, start, step}
 use Rattle.domain.specs.Premises.{Premises}
-use Rattle.domain.specs.Claim.{Safe}
-use Rattle.domain.proofs.Reached.{run-reached}
+use Rattle.domain.specs.Ideals.{changeOf}
+use Rattle.domain.specs.Claim.{agreed, Safe}
+use Rattle.domain.proofs.View.{domainOf}
+use Rattle.domain.proofs.Ends.{switch-set, controller-set}
+use Rattle.domain.proofs.Reached.{ranged, run-reached}
+use Rattle.domain.proofs.Room.{roomy}
 use Rattle.domain.proofs.Safety.{reached-safe}
 
-pub safe : (S : Setting) → Valid S → (calls : List Call) → Premises S calls → Safe S (run (step S) (start S) calls)
-safe S v calls p = reached-safe S v (run (step S) (start S) calls) (run-reached S v calls p)
+module _ (S : Setting) (v : Valid S) where
+  pub switches-set : (s : ℕ) → s < 16 → switch.setupOf s (S .n) .answer ≡ 0
+  switches-set s l = ap (λ (r : switch-reply.Reply). r .answer) (switch-set S v s l)
+
+  pub controllers-set : (c : ℕ) → c < S .n → controller.setupOf c (S .n) (playbook S) .answer ≡ 0
+  controllers-set c l = ap (λ (r : controller-reply.Reply). r .answer) (controller-set S v c l)
+
+  module _ (calls : List Call) (p : Premises S calls) where
+    abbrev after : Run
+    after = run (step S) (start S) calls
+
+    -- question 20
+    pub switch-limits : (s : ℕ) → s < 16 → switch.switchOk (after .switches s) ≡ true
+    switch-limits s l = run-reached S v calls p .switches s l .ok
+
+    pub controller-limits : (c : ℕ) → Keeps S c → controller.controllerOk (after .controllers c) ≡ true
+    controller-limits c keeps = run-reached S v calls p .controllers c keeps .ok
+
+    -- question 19: each switch has room for each agreed change on it
+    pub room : (k : ℕ) → 0 < k → k ≤ length (agreed S) →
+        let u = changeOf (agreed S) k in
+        roomFor (u .rule) (meaning (after .switches (u .switch) .table)) ≡ true
+    room k positive few =
+        let safe = run-reached S v calls p .invariant .safe in
+        rw (safe .tables (changeOf (agreed S) k .switch))
+        (roomy S v (ranged S v) _ (lawful-agreed (domainOf S) _ (safe .lawful)) k (positive, few))
+
+    pub safe : Safe S after
+    safe = reached-safe S v after (run-reached S v calls p)

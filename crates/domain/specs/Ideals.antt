@@ -37,11 +37,15 @@ module _ (agreed : List Undone) where
   abbrev pub skipsNone : List ℕ → Undone → Bool
   skipsNone made u = every (λ v. not (waitsFor u v) || isAmong (v .number) made) agreed
 
-  -- neither made already nor skipping: its rule is carried out on its switch's table; else it is refused
+  -- a number that is neither made already nor skips
+  abbrev pub accepts : Ideal → ℕ → Bool
+  accepts i k = isAgreed k && not (isAmong k (i .made)) && skipsNone (i .made) (changeOf k)
+
+  -- its rule is carried out on its switch's table; any other number is refused
   abbrev pub feed : Ideal → ℕ → Ideal
   feed i k =
       let u = changeOf k in
-      pick (isAgreed k && not (isAmong k (i .made)) && skipsNone (i .made) u)
+      pick (accepts i k)
       (record {
         tables = upd (i .tables) (u .switch) (changed (u .rule) (i .tables (u .switch)));
         made = k ∷ i .made;
