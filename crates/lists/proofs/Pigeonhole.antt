@@ -96,9 +96,11 @@ module _ {A : Type 0} (eq : A → A → Bool) where
         let m = members ks (lasts l) d (λ k e. among-lasts k l (h k e)) in
         omega (arith, length-lasts l)
 
-    -- so more members are no fewer kinds
-    pub kinds-append : (l m : List A) → kinds eq l ≤ kinds eq (l ++ m)
-    kinds-append l m =
-        let n = pigeonhole (lasts l) (l ++ m) (lasts-different l)
-        (λ k e. among-append eq k l m ∙ or-left _ _ (lasts-among k l e)) in
+    -- so a list whose members are all in another has no more kinds, and more members are no fewer kinds
+    pub kinds-within : (l m : List A) → ((k : A) → among eq k l ≡ true → among eq k m ≡ true) → kinds eq l ≤ kinds eq m
+    kinds-within l m h =
+        let n = pigeonhole (lasts l) m (lasts-different l) (λ k e. h k (lasts-among k l e)) in
         omega (arith, length-lasts l)
+
+    pub kinds-append : (l m : List A) → kinds eq l ≤ kinds eq (l ++ m)
+    kinds-append l m = kinds-within l (l ++ m) (λ k e. among-append eq k l m ∙ or-left _ _ e)
