@@ -214,3 +214,18 @@ module _ (S : Setting) where
             long = f .long;
             follows = rw (one-more ∙ on) (f .follows);
           }))
+
+      -- the decisions taken so far have the same changes as those brought: one refused by 12, 22 or 23 has none
+      pub decision-took : (ts : List Decision) → courseOf ds ≡ courseOf ts
+          → courseOf (ds ++ more)
+          ≡ courseOf (ts ++ decisionIn (λ answer. eqb answer 0) c (decidedBy t s serial cause .answer)
+          (atController c (controller-calls.decides s serial cause)))
+      decision-took ts same =
+          let grown = along-append (playbook S) beginning ts (decision ∷ [])
+          ∙ ap (λ (a : Course). advance (playbook S) a decision) (sym same) in
+          by-decision
+          (λ room is on.
+          rw (is, eq-eqb c c refl) (one-more ∙ sym grown))
+          (λ is. rw (is, eq-eqb c c refl, append-nil, append-nil) same)
+          (λ q n m is on.
+          rw (is, eq-eqb c c refl, ne-eqb q 24 m, ne-eqb q 0 n, append-nil) (one-more ∙ on ∙ same))

@@ -14,4 +14,7 @@ pub mod Ideals
 pub mod Numbers
 pub mod Safety
 pub mod Room
+pub mod Delivered
+pub mod Turns
+pub mod Live
 pub mod Theorem

@@ -150,3 +150,9 @@ pub at-member : {A : Type 0} (l : List A) (i : ℕ) (z : A) → i < length l →
 at-member [] i z h = absurd (omega arith)
 at-member (x ∷ l) zero z h = List·Memᴰ·head refl
 at-member (x ∷ l) (suc i) z h = List·Memᴰ·tail (at-member l i z (omega arith))
+
+pub member-at : {A : Type 0} (l : List A) (x z : A) → List·Memᴰ x l → (i : ℕ) × (i < length l) × (getD l i z ≡ x)
+member-at [] x z h = absurd (List·Memᴰ·not-nil h)
+member-at (y ∷ l) x z h =
+    ⊎-elim (λ e. (0, omega arith, sym e))
+    (λ t. let there = member-at l x z t in (suc (there .0), omega (arith, there .1), there .2)) (List·Memᴰ·cases-cons h)

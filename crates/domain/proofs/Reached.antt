@@ -2,6 +2,7 @@
 -- the run has the protocol's invariant. Each call is the protocol's, so the view of a run is a run of the protocol.
 -- Assumes nothing.
 use mathlib.Core.Path.{_≡_, refl, sym, ap, _∙_, subst}
+use mathlib.Core.Bool.{Bool}
 use mathlib.Core.List.{List, [], _∷_, _++_, append-nil, append-assoc, List·Memᴰ, List·Memᴰ·cases-cons}
 use mathlib.Core.List.{List·Memᴰ·not-nil}
 use mathlib.Core.Logic.{⊎-elim}
@@ -35,13 +36,13 @@ use Rattle.protocol.proofs.Kept.{call-kept}
 use Rattle.protocol.proofs.Orders.{lawful-agreed}
 use Rattle.domain.specs.Settings.{Decision, Setting, Valid, playbook, Keeps, switchKeys, controllerKeys}
 use Rattle.domain.specs.Calls.{Call, atSwitch, atController, Done, Run, start, step}
-use Rattle.domain.specs.Premises.{InRun, Unforged, decisions, brought, Premises}
+use Rattle.domain.specs.Premises.{InRun, Unforged, decisions, brought, taken, Premises}
 use Rattle.domain.proofs.Courses.{agreed-few}
 use Rattle.domain.proofs.View.{domainOf, viewSwitch, viewSlot, viewController, messages, madeSo, view}
 use Rattle.domain.proofs.View.{seen, Seen}
 use Rattle.domain.proofs.Agreed.{laws}
 use Rattle.domain.proofs.Ends.{SwitchFine, switch-start, switch-after, ControllerFine, controller-start}
-use Rattle.domain.proofs.Ends.{reception-after, writing-after, decision-after}
+use Rattle.domain.proofs.Ends.{courseOf, reception-after, writing-after, decision-after, decision-took}
 use Rattle.domain.proofs.AtSwitch as at-switch
 use Rattle.domain.proofs.AtController as at-controller
 
@@ -69,18 +70,19 @@ module _ (S : Setting) where
   brought-grows r c (atSwitch s x) = (_, refl)
   brought-grows r c (atController i x) = (_, refl)
 
-  by-switch : (r : Run) (c s : ℕ) (x : switch-calls.Call)
-      → brought c (step S r (atSwitch s x) .log) ≡ brought c (r .log)
-  unfolding step decisions
-  by-switch r c s x = append-nil (brought c (r .log))
+  module _ (test : ℕ → Bool) (r : Run) (c : ℕ) where
+    by-switch : (s : ℕ) (x : switch-calls.Call)
+        → decisions test c (step S r (atSwitch s x) .log) ≡ decisions test c (r .log)
+    unfolding step decisions
+    by-switch s x = append-nil (decisions test c (r .log))
 
-  by-other : (r : Run) (c i : ℕ) (x : controller-calls.Call) → (i ≡ c → ⊥)
-      → brought c (step S r (atController i x) .log) ≡ brought c (r .log)
-  unfolding step decisions
-  by-other r c i (controller-calls.receives bytes) n = append-nil (brought c (r .log))
-  by-other r c i (controller-calls.decides s serial cause) n =
-      rw (ne-eqb i c n) (append-nil (brought c (r .log)))
-  by-other r c i (controller-calls.writesShare s frame at) n = append-nil (brought c (r .log))
+    by-other : (i : ℕ) (x : controller-calls.Call) → (i ≡ c → ⊥)
+        → decisions test c (step S r (atController i x) .log) ≡ decisions test c (r .log)
+    unfolding step decisions
+    by-other i (controller-calls.receives bytes) n = append-nil (decisions test c (r .log))
+    by-other i (controller-calls.decides s serial cause) n =
+        rw (ne-eqb i c n) (append-nil (decisions test c (r .log)))
+    by-other i (controller-calls.writesShare s frame at) n = append-nil (decisions test c (r .log))
 
   -- so what was brought earlier is a beginning too
   begun-before : (r : Run) (x : Call) → Begun (step S r x) → Begun r
@@ -106,6 +108,8 @@ module _ (S : Setting) where
     pub controllers : (c : ℕ) → Keeps S c → ControllerFine S c (brought c (r .log)) (r .controllers c)
     pub invariant : Invariant D (view r)
     pub read : SharesRead (r .log)
+    -- the decisions that a controller took have the changes of all that it was brought
+    pub took : (c : ℕ) → Keeps S c → courseOf S (brought c (r .log)) ≡ courseOf S (taken c (r .log))
 
   module _ (v : Valid S) where
     pub ranged : InRange (playbook S)
@@ -141,11 +145,12 @@ module _ (S : Setting) where
       controllers = λ c keeps. controller-start S v c (keeps .0);
       invariant = subst (Invariant D) (sym start-view) (start-invariant D (laws S v ranged));
       read = λ s bytes written h. absurd (List·Memᴰ·not-nil h);
+      took = λ c keeps. refl;
     }
 
     module _ (r : Run) (R : Reached r) where
       -- last applied numbers are agreed ones, so they fit four bytes
-      last-small : (s : ℕ) → r .switches s .last < 256 ^ 4
+      pub last-small : (s : ℕ) → r .switches s .last < 256 ^ 4
       last-small s =
           by-eq (r .switches s .last) 0 (λ z. omega arith)
           (λ some.
@@ -193,11 +198,28 @@ module _ (S : Setting) where
 
       controllers-after : (x : Call) → InRun S r x → (c : ℕ) → Keeps S c
           → ControllerFine S c (brought c (step S r x .log)) (step S r x .controllers c)
-      controllers-after (atSwitch s x) h c keeps = rw (by-switch r c s x) (unfold step in R .controllers c keeps)
+      controllers-after (atSwitch s x) h c keeps = rw (by-switch _ r c s x) (unfold step in R .controllers c keeps)
       controllers-after (atController i x) h c keeps = unfold step in
           upd-at (λ c t. Keeps S c → ControllerFine S c (brought c (step S r (atController i x) .log)) t)
           (r .controllers) i _ c (λ k. itself-after i x k)
-          (λ n k. rw (by-other r c i x n) (R .controllers c k)) keeps
+          (λ n k. rw (by-other _ r c i x n) (R .controllers c k)) keeps
+
+      took-itself : (c : ℕ) (x : controller-calls.Call) → Keeps S c
+          → courseOf S (brought c (step S r (atController c x) .log))
+          ≡ courseOf S (taken c (step S r (atController c x) .log))
+      unfolding step decisions
+      took-itself c (controller-calls.receives bytes) keeps = rw (append-nil, append-nil) (R .took c keeps)
+      took-itself c (controller-calls.decides s serial cause) keeps =
+          decision-took S c _ _ (R .controllers c keeps) s serial cause (taken c (r .log)) (R .took c keeps)
+      took-itself c (controller-calls.writesShare s frame at) keeps = rw (append-nil, append-nil) (R .took c keeps)
+
+      took-after : (x : Call) (c : ℕ) → Keeps S c
+          → courseOf S (brought c (step S r x .log)) ≡ courseOf S (taken c (step S r x .log))
+      took-after (atSwitch s x) c keeps = rw (by-switch _ r c s x, by-switch _ r c s x) (R .took c keeps)
+      took-after (atController i x) c keeps =
+          by-eq i c (λ e. subst (λ (j : ℕ). courseOf S (brought c (step S r (atController j x) .log))
+          ≡ courseOf S (taken c (step S r (atController j x) .log))) (sym e) (took-itself c x keeps))
+          (λ n. rw (by-other _ r c i x n, by-other _ r c i x n) (R .took c keeps))
 
       -- bytes answered 1 were read as a share
       read-so : (s : ℕ) (x : switch-calls.Call) → s < 16 → (bytes : List ℕ) → receives bytes ≡ x
@@ -240,6 +262,7 @@ module _ (S : Setting) where
             invariant = subst (Invariant D) (sym (s .is))
                 (call-kept D (laws S v ranged) (view r) (R .invariant) (seen S r x) (s .allowed));
             read = read-after x h;
+            took = took-after x;
           }
 
     -- a run within the premises reaches such a state, and its view is a run of the protocol that is allowed there

@@ -1,6 +1,6 @@
--- Demand 3. All ends begin from setups answered 0. The first half: after every run within the premises, what the
--- switches did is what the ideal controller does. On the way, no call of such a run is refused by question 20, and no
--- agreed change by question 19. Assumes nothing.
+-- Demand 3. All ends begin from setups answered 0; no call of a run within the premises is refused by question 20, and
+-- no agreed change by question 19. The last lines are the claim: after every run what the switches did is what the ideal
+-- controller does, and as many full rounds as changes remain make all. Assumes nothing.
 use mathlib.Core.Path.{_≡_, ap}
 use mathlib.Core.Bool.{true}
 use mathlib.Core.List.{List}
@@ -18,12 +18,13 @@ use Rattle.domain.specs.Settings.{Setting, Valid, playbook, Keeps}
 use Rattle.domain.specs.Calls.{Call, Run, start, step}
 use Rattle.domain.specs.Premises.{Premises}
 use Rattle.domain.specs.Ideals.{changeOf}
-use Rattle.domain.specs.Claim.{agreed, Safe}
+use Rattle.domain.specs.Claim.{agreed, Safe, Demand3}
 use Rattle.domain.proofs.View.{domainOf}
 use Rattle.domain.proofs.Ends.{switch-set, controller-set}
 use Rattle.domain.proofs.Reached.{ranged, run-reached}
 use Rattle.domain.proofs.Room.{roomy}
 use Rattle.domain.proofs.Safety.{reached-safe}
+use Rattle.domain.proofs.Live.{all-made}
 
 module _ (S : Setting) (v : Valid S) where
   pub switches-set : (s : ℕ) → s < 16 → switch.setupOf s (S .n) .answer ≡ 0
@@ -54,3 +55,7 @@ module _ (S : Setting) (v : Valid S) where
 
     pub safe : Safe S after
     safe = reached-safe S v after (run-reached S v calls p)
+
+-- the one claim
+pub demand3 : (S : Setting) → Valid S → Demand3 S
+demand3 S v = record { safe = safe S v; live = all-made S v }

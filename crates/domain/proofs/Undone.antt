@@ -10,7 +10,7 @@ use lib.ListN.{length, getD}
 use borrow.Author.Tests.{ltb-true, lt-ltb, not-true}
 use Rattle.answer.proofs.Bools.{by-bool, by-le, tf, and-join, and-parts}
 use Rattle.lists.specs.Counts.{passing}
-use Rattle.lists.proofs.Tails.{every-at}
+use Rattle.lists.proofs.Tails.{every-at, every-all}
 use Rattle.flow.specs.declared.Rule.{Rule}
 use Rattle.flow.specs.declared.Table.{Table}
 use Rattle.playbook.specs.Printing.{InRange}
@@ -57,7 +57,7 @@ passing-from f (x ∷ l) j h =
     (λ e. rw e (from-next (passing-from f l j (rw e at h))))
 
 -- as many numbers are given as the decisions brought have changes, and no more than are agreed
-last-given : (S : Setting) (c : ℕ) (ds : List Decision) (t : Controller) → ControllerFine S c ds t
+pub last-given : (S : Setting) (c : ℕ) (ds : List Decision) (t : Controller) → ControllerFine S c ds t
     → t .last ≡ length (agreedChanges (playbook S) ds)
 unfolding agreedChanges
 last-given S c ds t f = f .follows .last
@@ -142,4 +142,27 @@ module _ (S : Setting) (v : Valid S) (ranged : InRange (playbook S)) (c : ℕ) (
             and-join (ltb (w .number) (u .number)) (related u w) (rw n (parts .1))
             (subst (λ (x : Undone). related x w ≡ true) (is .0) (both .1)) in
             absurd (tf waits (not-true _ free)));
+      }
+
+  -- and what is ready in the protocol is ready among the undone changes
+  pub ready-readied : (k : ℕ) → Ready D (viewController t) k → Readied (D .switch k) us (changeOf (agreed S) k)
+  ready-readied k ready =
+      let u = changeOf (agreed S) k in
+      let given = given-at k (ready .positive) (ready .given) in
+      record {
+        stands = undone-stands k (ready .positive) (ready .given) (ready .undone);
+        on = refl;
+        ready = every-all (λ w. not (waitsFor u w)) us emptyUndone (λ i l.
+            let w = undoneAt us i in
+            let is = undone-agreed w (record { place = i; inside = l; there = refl }) in
+            let fits = held-fits t (within t (f .ok)) i emptyUndone l in
+            by-bool (waitsFor u w)
+            (λ e.
+            let t = and-parts (ltb (w .number) (u .number)) (related u w) e in
+            let n = change-fine S v ranged k (given .1) .numbered in
+            let waits : D .waits k (w .number) ≡ true =
+            and-join _ _ (and-join _ _ (lt-ltb 0 (w .number) (is .1 .0)) (rw n at (t .0)))
+            (subst (λ (x : Undone). related u x ≡ true) (sym (is .0)) (t .1)) in
+            absurd (omega (arith, fits .above, rw (is .0) at (ready .free (w .number) waits))))
+            (λ e. rw e));
       }

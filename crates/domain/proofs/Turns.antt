@@ -1,0 +1,182 @@
+-- Full rounds of a run are full rounds of the protocol: a moment of the one is a moment of the other, and what is
+-- delivered in the one is delivered in the other. Assumes nothing.
+use mathlib.Core.Path.{_≡_, refl, sym, ap, _∙_, subst}
+use mathlib.Core.Bool.{false}
+use mathlib.Core.List.{List, [], _∷_, _++_, List·Memᴰ, List·Memᴰ·head, List·Memᴰ·tail, List·Memᴰ·cases-cons}
+use mathlib.Core.List.{List·Memᴰ·not-nil}
+use mathlib.Core.Logic.{inl, inr, ⊎-elim}
+use Prim.Native.Nat.{ℕ, zero, suc, _+_, _<_}
+use Rattle.flow.specs.declared.Rule.{Rule}
+use Rattle.flow.specs.declared.Table.{Table}
+use Rattle.protocol.specs.Runs.{run, Every, Sometime, Rounds}
+use Rattle.protocol.specs.Ends as protocol
+use Rattle.protocol.specs.Worlds as protocol-worlds
+use Rattle.protocol.specs.Claims as protocol-claims
+use Rattle.protocol.proofs.Runs.{run-append, every-append}
+use Rattle.domain.specs.Settings.{Setting, Valid}
+use Rattle.domain.specs.Calls.{Call, Run, step}
+use Rattle.domain.specs.Premises.{InRun, Unforged}
+use Rattle.domain.specs.Rounds.{Round}
+use Rattle.domain.proofs.View.{domainOf, view, seen}
+use Rattle.domain.proofs.Agreed.{change-fine}
+use Rattle.domain.proofs.Reached.{Begun, Reached, Walked, begun-early, ranged, last-small, call-seen}
+use Rattle.domain.proofs.Reached.{call-reached}
+use Rattle.domain.proofs.Reached.{seenAll, walk}
+use Rattle.domain.proofs.Delivered.{acknowledgement-answered, acknowledgement-delivered}
+use Rattle.domain.proofs.Delivered.{share-answered, share-delivered}
+
+abbrev World : Type 0
+World = protocol-worlds.World Rule Table
+
+abbrev Calls : Type 0
+Calls = List (protocol-worlds.Call Rule)
+
+module _ (S : Setting) (v : Valid S) where
+  abbrev D : protocol.Domain Rule Table
+  D = domainOf S
+
+  -- what the protocol sees of a list of calls, and its runs
+  abbrev calls : Run → List Call → Calls
+  calls r xs = seenAll S v r xs
+
+  abbrev runs : World → Calls → World
+  runs w xs = run (protocol-worlds.step D) w xs
+
+  -- a list of calls from a state on, within the premises
+  pub record Fair (r : Run) (xs : List Call) : Type 0 where
+    pub in-run : Every (step S) (InRun S) r xs
+    pub unforged : Every (step S) (Unforged S) r xs
+    pub begun : Begun S (run (step S) r xs)
+
+  pub fair-first : (r : Run) (xs ys : List Call) → Fair r (xs ++ ys) → Fair r xs
+  fair-first r xs ys f = record {
+    in-run = every-append (step S) (InRun S) r xs ys (f .in-run) .0;
+    unforged = every-append (step S) (Unforged S) r xs ys (f .unforged) .0;
+    begun = begun-early S (run (step S) r xs) ys (rw (run-append (step S) r xs ys) at (f .begun));
+  }
+
+  pub fair-rest : (r : Run) (xs ys : List Call) → Fair r (xs ++ ys) → Fair (run (step S) r xs) ys
+  fair-rest r xs ys f = record {
+    in-run = every-append (step S) (InRun S) r xs ys (f .in-run) .1;
+    unforged = every-append (step S) (Unforged S) r xs ys (f .unforged) .1;
+    begun = rw (run-append (step S) r xs ys) at (f .begun);
+  }
+
+  pub walked : (r : Run) → Reached S r → (xs : List Call) → Fair r xs → Walked S v r xs
+  walked r R xs f = walk S v r R xs (f .in-run) (f .unforged) (f .begun)
+
+  -- a run of two lists is seen one after the other
+  seen-append : (r : Run) (xs ys : List Call)
+      → calls r (xs ++ ys) ≡ calls r xs ++ calls (run (step S) r xs) ys
+  unfolding seenAll
+  seen-append r [] ys = refl
+  seen-append r (x ∷ xs) ys = ap (λ l. seen S r x ∷ l) (seen-append (step S r x) xs ys)
+
+  -- a call that is seen as one thing whenever it is made
+  seen-there : (y : Call) (z : protocol-worlds.Call Rule) → ((u : Run) → seen S u y ≡ z) → (r : Run) (xs : List Call)
+      → List·Memᴰ y xs → List·Memᴰ z (calls r xs)
+  unfolding seenAll
+  seen-there y z is r [] h = absurd (List·Memᴰ·not-nil h)
+  seen-there y z is r (x ∷ xs) h =
+      ⊎-elim (λ e. List·Memᴰ·head (sym (is r) ∙ ap (seen S r) e))
+      (λ t. List·Memᴰ·tail (seen-there y z is (step S r x) xs t)) (List·Memᴰ·cases-cons h)
+
+  -- a moment of a run is a moment of the protocol's
+  moment-seen : (P : Run → List Call → Type 0) (Q : World → Calls → Type 0)
+      → ((u : Run) → Reached S u → Begun S u → (rest : List Call) → P u rest → Q (view u) (calls u rest))
+      → (r : Run) → Reached S r → (xs : List Call) → Fair r xs → Sometime (step S) P r xs
+      → Sometime (protocol-worlds.step D) Q (view r) (calls r xs)
+  unfolding seenAll
+  moment-seen P Q now r R [] f h = now r R (f .begun) [] h
+  moment-seen P Q now r R (x ∷ xs) f h =
+      let b = begun-early S (step S r x) xs (f .begun) in
+      let s = call-seen S v r R x (f .in-run .0) (f .unforged .0) b in
+      let R2 = call-reached S v r R x (f .in-run .0) (f .unforged .0) b in
+      ⊎-elim (λ p. inl (now r R (begun-early S r (x ∷ xs) (f .begun)) (x ∷ xs) p))
+      (λ q. inr (subst (λ w. Sometime (protocol-worlds.step D) Q w (calls (step S r x) xs)) (s .is)
+      (moment-seen P Q now (step S r x) R2 xs
+      (record { in-run = f .in-run .1; unforged = f .unforged .1; begun = f .begun }) q))) h
+
+  -- a full round is one of the protocol's
+  module _ (r : Run) (R : Reached S r) (first second : List Call) (f : Fair r first)
+      (g : Fair (run (step S) r first) second) (round : Round S r first second) where
+    abbrev middle : Run
+    middle = run (step S) r first
+
+    -- the acknowledgement of a number's switch is among the calls still to come, and the share of a ready number is
+    abbrev Told : ℕ → ℕ → World → Calls → Type 0
+    Told c k w rest =
+        List·Memᴰ (protocol-worlds.takesAcknowledgement c (D .switch k) (w .switches (D .switch k) .last)) rest
+
+    abbrev Comes : ℕ → ℕ → World → Calls → Type 0
+    Comes c k w rest = protocol-worlds.Ready D (w .controllers c) k
+        → List·Memᴰ (protocol-worlds.takesShare (D .switch k) c k (D .content k)) rest
+
+    round-acknowledged : (c k : ℕ) → c < S .n → S .strays c ≡ false → protocol-worlds.Agreed D k
+        → Sometime (protocol-worlds.step D) (Told c k) (view r) (calls r first)
+    round-acknowledged c k l keeps a =
+        let s = D .switch k in
+        let known = change-fine S v (ranged S v) k a .known in
+        moment-seen _ (Told c k)
+        (λ u U begun rest p.
+        let fine = U .switches s known in
+        let small = last-small S v u U s in
+        seen-there _ _ (acknowledgement-delivered S v u s c known l fine small) u rest
+        (p (acknowledgement-answered S v u s c known l fine small)))
+        r R first f (round .acknowledged s c known (l, keeps))
+
+    round-shared : (c k : ℕ) → c < S .n → S .strays c ≡ false → protocol-worlds.Agreed D k
+        → Sometime (protocol-worlds.step D) (Comes c k) (view middle) (calls middle second)
+    round-shared c k l keeps a =
+        let s = D .switch k in
+        let known = change-fine S v (ranged S v) k a .known in
+        moment-seen _ (Comes c k)
+        (λ u U begun rest p ready.
+        let b = begun c (l, keeps) in
+        let fine = U .controllers c (l, keeps) in
+        seen-there _ _ (share-delivered S v u c l (ranged S v) _ (b .0) (b .1) fine k ready) u rest
+        (p (share-answered S v u c l (ranged S v) _ (b .0) (b .1) fine k ready)))
+        middle (walked r R first f .reached) second g (round .shared s c known (l, keeps))
+
+    round-seen : protocol-claims.Round D (view r) (calls r first) (calls middle second)
+    round-seen = record {
+      acknowledged = round-acknowledged;
+      shared = λ c k l keeps a.
+          subst (λ w. Sometime (protocol-worlds.step D) (Comes c k) w (calls middle second))
+          (walked r R first f .is) (round-shared c k l keeps a);
+    }
+
+  -- and so are any number of rounds, one after the other
+  pub rounds-seen : (k : ℕ) (r : Run) → Reached S r → (xs : List Call) → Fair r xs
+      → Rounds (step S) (Round S) k r xs
+      → Rounds (protocol-worlds.step D) (protocol-claims.Round D) k (view r) (calls r xs)
+  rounds-seen zero r R xs f rounds = tt
+  rounds-seen (suc k) r R xs f (gap, first, second, rest, cut, round, more) =
+      let f0 = subst (Fair r) cut f in
+      let a = run (step S) r gap in
+      let b = run (step S) a first in
+      let c = run (step S) b second in
+      let f1 = fair-rest r gap (first ++ (second ++ rest)) f0 in
+      let f2 = fair-rest a first (second ++ rest) f1 in
+      let ff = fair-first a first (second ++ rest) f1 in
+      let fs = fair-first b second rest f2 in
+      let wa = walked r R gap (fair-first r gap (first ++ (second ++ rest)) f0) in
+      let wb = walked a (wa .reached) first ff in
+      let wc = walked b (wb .reached) second fs in
+      let pieces : calls r xs ≡ calls r gap ++ (calls a first ++ (calls b second ++ calls c rest)) =
+      ap (calls r) cut
+      ∙ seen-append r gap (first ++ (second ++ rest))
+      ∙ ap (λ l. calls r gap ++ l) (seen-append a first (second ++ rest)
+      ∙ ap (λ l. calls a first ++ l) (seen-append b second rest)) in
+      let end : view c ≡ runs (runs (runs (view r) (calls r gap)) (calls a first)) (calls b second) =
+      wc .is ∙ ap (λ w. runs w (calls b second)) (wb .is ∙ ap (λ w. runs w (calls a first)) (wa .is)) in (
+        calls r gap,
+        calls a first,
+        calls b second,
+        calls c rest,
+        pieces,
+        subst (λ w. protocol-claims.Round D w (calls a first) (calls b second)) (wa .is)
+            (round-seen a (wa .reached) first second ff fs round),
+        subst (λ w. Rounds (protocol-worlds.step D) (protocol-claims.Round D) k w (calls c rest)) end
+            (rounds-seen k c (wc .reached) rest (fair-rest b second rest f2) more),
+      )
