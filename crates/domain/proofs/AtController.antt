@@ -2,7 +2,6 @@
 -- nothing, a decision takes the last number given so far, and a share written is that of the ready change.
 -- Assumes nothing.
 use mathlib.Core.Path.{_≡_, refl, sym, ap, ap₂, _∙_, subst}
-use mathlib.Core.Bool.{not}
 use mathlib.Core.List.{List, _∷_, _++_}
 use Prim.Native.Nat.{ℕ, _+_, _-_, _*_, _<_}
 use native.Mathlib.Omega.{arith}
@@ -42,7 +41,7 @@ use Rattle.protocol.proofs.Steps.{other-stays}
 use Rattle.protocol.proofs.Families.{upd-same, upd-other, upd-self, upd-ap}
 use Rattle.domain.specs.Settings.{Decision, Setting, Valid, playbook, controllerKeys}
 use Rattle.domain.specs.Calls.{Call, atController, Run, controllerWrites, step}
-use Rattle.domain.specs.Premises.{Unforged, decisionIn}
+use Rattle.domain.specs.Premises.{Unforged, decisionIn, isBrought}
 use Rattle.domain.specs.Premises as premises
 use Rattle.domain.proofs.View.{domainOf, viewController, said, messages, madeSo, view, isFrom, seen, Seen}
 use Rattle.domain.specs.Ideals.{changeOf}
@@ -212,7 +211,7 @@ module _ (S : Setting) (v : Valid S) (r : Run) (c : ℕ) (ds : List Decision)
   -- a decision, where what was brought with it is a beginning of the agreed list
   module _ (s serial cause : ℕ) (rest : List Decision) where
     abbrev after : List Decision
-    after = ds ++ decisionIn (λ answer. not (eqb answer 24)) c (decidedBy t s serial cause .answer)
+    after = ds ++ decisionIn isBrought c (decidedBy t s serial cause .answer)
         (atController c (controller-calls.decides s serial cause))
 
     same-numbers : decidedBy t s serial cause .state .acknowledged ≡ t .acknowledged

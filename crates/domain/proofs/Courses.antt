@@ -5,11 +5,11 @@ use mathlib.Core.Bool.{Bool, true, false}
 use mathlib.Core.List.{List, [], _∷_, _++_, append-nil, append-assoc}
 use Prim.Native.Nat.{ℕ, _+_, _-_, _^_, _≤_, _<_}
 use native.Mathlib.Omega.{arith}
-use lib.Dec.{ltb, leb}
+use lib.Dec.{ltb}
 use lib.ListN.{length, getD, set, length-append, List·getD-append}
 use lib.Seq.{getD-append-add}
 use borrow.Author.Tests.{ltb-true, leb-true}
-use Rattle.answer.proofs.Asked.{none-asked, refused, asked, reply-keeps, answered}
+use Rattle.answer.proofs.Asked.{none-asked, refused, asked, reply-keeps, answerTo, answered}
 use Rattle.answer.proofs.Bools.{by-le, and-parts}
 use Rattle.lists.specs.Arrays.{every}
 use Rattle.lists.specs.Kinds.{among}
@@ -51,23 +51,20 @@ module _ (p : Playbook) where
     abbrev pub onward : Course
     onward = record { serials = set (a .serials) (d .switch) (d .serial); changes = a .changes ++ next p a d }
 
-    abbrev isNew : Bool
-    isNew = ltb (getD (a .serials) (d .switch) 0) (d .serial)
+    abbrev pub asks : ℕ → Bool
+    asks q = answerTo q (courseQuestions p a d)
 
-    abbrev isFew : Bool
-    isFew = leb (length (a .changes) + length (next p a d)) 4294967295
-
-    pub advanced : ltb (d .switch) 16 ≡ true → isNew ≡ true → isFew ≡ true → advance p a d ≡ onward
+    pub advanced : asks 12 ≡ true → asks 22 ≡ true → asks 23 ≡ true → advance p a d ≡ onward
     advanced known new few =
         asked _ _ 12 _ _ known ∙ asked _ _ 22 _ _ new ∙ asked _ _ 23 _ _ few ∙ none-asked _ _
 
-    pub stays-12 : ltb (d .switch) 16 ≡ false → advance p a d ≡ a
+    pub stays-12 : asks 12 ≡ false → advance p a d ≡ a
     stays-12 unknown = refused _ _ 12 _ _ unknown
 
-    pub stays-22 : ltb (d .switch) 16 ≡ true → isNew ≡ false → advance p a d ≡ a
+    pub stays-22 : asks 12 ≡ true → asks 22 ≡ false → advance p a d ≡ a
     stays-22 known old = asked _ _ 12 _ _ known ∙ refused _ _ 22 _ _ old
 
-    pub stays-23 : ltb (d .switch) 16 ≡ true → isNew ≡ true → isFew ≡ false → advance p a d ≡ a
+    pub stays-23 : asks 12 ≡ true → asks 22 ≡ true → asks 23 ≡ false → advance p a d ≡ a
     stays-23 known new many = asked _ _ 12 _ _ known ∙ asked _ _ 22 _ _ new ∙ refused _ _ 23 _ _ many
 
   -- a longer list of decisions

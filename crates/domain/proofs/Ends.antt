@@ -2,12 +2,12 @@
 -- keeps the rules has come along the agreed list as far as it was brought decisions: it holds those of the agreed
 -- changes so far that are not done. Assumes nothing.
 use mathlib.Core.Path.{_≡_, refl, sym, ap, _∙_}
-use mathlib.Core.Bool.{true, not}
+use mathlib.Core.Bool.{true}
 use mathlib.Core.List.{List, [], _∷_, _++_, append-nil}
 use Prim.Native.Nat.{ℕ, _+_, _≤_, _<_}
 use native.Mathlib.Omega.{arith}
 use lib.Dec.{ltb, leb, eqb}
-use lib.ListN.{length, getD, set, length-append, length-set}
+use lib.ListN.{length, set, length-append, length-set}
 use borrow.Author.Tests.{leb-true, lt-ltb, le-leb, eq-eqb, ne-eqb}
 use Rattle.answer.specs.Ask.{reply}
 use Rattle.answer.proofs.Asked.{asked, none-asked}
@@ -37,9 +37,9 @@ use Rattle.controller.proofs.Sent.{written-state}
 use Rattle.controller.proofs.Taken.{Received, refused, offered, repeated, acknowledged, received}
 use Rattle.domain.specs.Settings.{Decision, Setting, Valid, playbook}
 use Rattle.domain.specs.Calls.{atController}
-use Rattle.domain.specs.Premises.{decisionIn}
+use Rattle.domain.specs.Premises.{decisionIn, isBrought}
 use Rattle.domain.specs.Agreement.{Course, beginning, next, advance, along}
-use Rattle.domain.proofs.Courses.{onward, advanced, stays-12, stays-22, stays-23, along-append}
+use Rattle.domain.proofs.Courses.{onward, asks, advanced, stays-12, stays-22, stays-23, along-append}
 
 module _ (S : Setting) where
   -- switch s
@@ -156,9 +156,8 @@ module _ (S : Setting) where
       unfolding decidedBy reply
       by-decision taken full declined =
           let few = leb (t .last + length (givenBy t (s, cause))) 4294967295 in
-          let few-is : few ≡ leb (length (course .changes) + length (next (playbook S) course decision)) 4294967295 =
-          rw (given-is, f .follows .last) in
-          let new-is : ltb (serialOf t s) serial ≡ ltb (getD (course .serials) s 0) serial = rw (f .follows .serials) in
+          let few-is : few ≡ asks (playbook S) course decision 23 = rw (given-is, f .follows .last) in
+          let new-is : ltb (serialOf t s) serial ≡ asks (playbook S) course decision 22 = rw (f .follows .serials) in
           by-bool (ltb s 16)
           (λ e. by-bool (ltb (serialOf t s) serial)
           (λ e2. by-bool few
@@ -175,7 +174,7 @@ module _ (S : Setting) where
 
       -- what is then brought so far
       abbrev more : List Decision
-      more = decisionIn (λ answer. not (eqb answer 24)) c (decidedBy t s serial cause .answer)
+      more = decisionIn isBrought c (decidedBy t s serial cause .answer)
           (atController c (controller-calls.decides s serial cause))
 
       one-more : courseOf (ds ++ decision ∷ []) ≡ advance (playbook S) course decision

@@ -60,8 +60,11 @@ decisions test c [] = []
 decisions test c (d ∷ log) = decisions test c log ++ decisionIn test c (d .answer) (d .call)
 
 -- a controller's decisions, those answered 24 aside; and those that it took
+abbrev pub isBrought : ℕ → Bool
+isBrought answer = not (eqb answer 24)
+
 abbrev pub brought : ℕ → List Done → List Decision
-brought = decisions (λ answer. not (eqb answer 24))
+brought = decisions isBrought
 
 abbrev pub taken : ℕ → List Done → List Decision
 taken = decisions (λ answer. eqb answer 0)
