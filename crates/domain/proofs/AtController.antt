@@ -14,12 +14,13 @@ use Rattle.answer.proofs.Asked.{reply-keeps}
 use Rattle.answer.proofs.Bools.{by-bool, by-eq}
 use Rattle.flow.specs.declared.Rule.{Rule}
 use Rattle.flow.specs.declared.Table.{Table}
-use Rattle.message.specs.Keys.{keyLength}
+use Rattle.message.specs.Keys.{keyLength, keyAt}
 use Rattle.message.specs.Reading.{decode}
 use Rattle.message.specs.Senders.{senderQuestions}
 use Rattle.message.specs.declared.End.the-variants as ends
 use Rattle.message.specs.declared.Message.the-variants.{Event, Share, Acknowledgement, Refused}
 use Rattle.message.proofs.Ends.{by-controller}
+use Rattle.message.proofs.Written.{Sent}
 use Rattle.playbook.specs.Printing.{InRange}
 use Rattle.controller.specs.Changes.{meaning}
 use Rattle.controller.specs.States.{unchanged}
@@ -251,15 +252,19 @@ module _ (S : Setting) (v : Valid S) (r : Run) (c : ℕ) (ds : List Decision)
       is-agreed : (changeOf (agreed S) (u .number) ≡ u) × protocol-worlds.Agreed D (u .number)
       is-agreed = undone-agreed S v ranged c ds rest begins t f u (readied .stands)
 
-      -- the bytes are read as the share of the agreed change
-      share-read : decode ends.Switch (controllerWrites keys t (controller-calls.writesShare s frame at))
-          ≡ Share (t .id) s (u .number) (u .rule)
-      share-read =
+      -- the frame has the share of the agreed change, and its bytes are read as that
+      pub share-there : Sent (keyAt keys s) (Share (t .id) s (u .number) (u .rule)) frame at
+          (shareWritten t keys s frame at .1)
+      share-there =
           let fine = change-fine S v ranged (u .number) (is-agreed .1) in
           let range = subst (λ (x : Undone). RuleInRange (x .rule)) (is-agreed .0) (fine .in-range) in
           let few = agreed-few (playbook S) (S .agreed) in
           share-sent t keys s frame at e u (allowed t keys s frame at e .ready)
-          (omega (arith, is-agreed .1 .1), range .0, range .1) .read
+          (omega (arith, is-agreed .1 .1), range .0, range .1)
+
+      share-read : decode ends.Switch (controllerWrites keys t (controller-calls.writesShare s frame at))
+          ≡ Share (t .id) s (u .number) (u .rule)
+      share-read = share-there .read
 
       share-seen : view (step S r (atController c (controller-calls.writesShare s frame at)))
           ≡ protocol-worlds.step D (view r) (protocol-worlds.writesShare c (u .number))

@@ -1,6 +1,6 @@
 -- Demand 3. All ends begin from setups answered 0; no call of a run within the premises is refused by question 20, and
--- no agreed change by question 19. The last lines are the claim: after every run what the switches did is what the ideal
--- controller does, and as many full rounds as changes remain make all. Assumes nothing.
+-- no agreed change by question 19. The last lines are the claim: after every run what the switches did is what the
+-- ideal controller does, and as many full rounds as changes remain make all. Assumes nothing.
 use mathlib.Core.Path.{_≡_, ap}
 use mathlib.Core.Bool.{true}
 use mathlib.Core.List.{List}

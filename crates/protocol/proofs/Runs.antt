@@ -1,8 +1,8 @@
--- Laws of runs: a run of two lists is one after the other, what every allowed call keeps, a run keeps, and what a
--- delivery brings about, a run has that contains the delivery. Assumes nothing.
+-- Laws of runs: a run of two lists is one after the other, and so are its moments; what every allowed call keeps, a run
+-- keeps, and what a delivery brings about, a run has that contains the delivery. Assumes nothing.
 use mathlib.Core.Path.{_≡_, refl}
 use mathlib.Core.List.{List, [], _∷_, _++_, List·Memᴰ, List·Memᴰ·cases-cons, List·Memᴰ·not-nil}
-use mathlib.Core.Logic.{⊎-elim}
+use mathlib.Core.Logic.{inl, inr, ⊎-elim}
 use Rattle.protocol.specs.Runs.{run, Every, Sometime}
 
 module _ {State Call : Type 0} (step : State → Call → State) where
@@ -10,7 +10,22 @@ module _ {State Call : Type 0} (step : State → Call → State) where
   run-append r [] ys = refl
   run-append r (x ∷ xs) ys = run-append (step r x) xs ys
 
+  -- a moment of a list is the present one, or one of what is left of it
+  module _ (M : State → List Call → Type 0) where
+    pub now : (r : State) (xs : List Call) → M r xs → Sometime step M r xs
+    now r [] m = m
+    now r (x ∷ xs) m = inl m
+
+    pub later : (r : State) (xs ys : List Call) → Sometime step M (run step r xs) ys → Sometime step M r (xs ++ ys)
+    later r [] ys m = m
+    later r (x ∷ xs) ys m = inr (later (step r x) xs ys m)
+
   module _ (P : State → Call → Type 0) where
+    pub every-join : (r : State) (xs ys : List Call) → Every step P r xs → Every step P (run step r xs) ys
+        → Every step P r (xs ++ ys)
+    every-join r [] ys h k = k
+    every-join r (x ∷ xs) ys h k = (h .0, every-join (step r x) xs ys (h .1) k)
+
     pub every-append : (r : State) (xs ys : List Call) → Every step P r (xs ++ ys)
         → Every step P r xs × Every step P (run step r xs) ys
     every-append r [] ys h = (tt, h)

@@ -1,0 +1,99 @@
+-- A run within the premises goes on within them: with what was written, however late and however often, with whatever
+-- names a controller that strays, and with calls that bring no decision. Assumes nothing.
+use mathlib.Core.Path.{_≡_, sym, subst}
+use mathlib.Core.Bool.{true}
+use mathlib.Core.List.{List, [], _∷_, _++_, append-nil}
+use Prim.Native.Nat.{ℕ, _<_}
+use Rattle.message.specs.Reading.{decode}
+use Rattle.message.specs.declared.End.the-variants as ends
+use Rattle.switch.specs.Calls.{receives}
+use Rattle.controller.specs.Calls as controller-calls
+use Rattle.controller.specs.Calls.{writesShare}
+use Rattle.protocol.specs.Runs.{run}
+use Rattle.protocol.proofs.Runs.{run-append, every-join}
+use Rattle.domain.specs.Settings.{Setting, Valid, Keeps}
+use Rattle.domain.specs.Calls.{Call, atSwitch, atController, Run, start, step}
+use Rattle.domain.specs.Premises.{SwitchWrote, ControllerWrote, FromController, InRun, Unforged, decisions, Premises}
+use Rattle.domain.proofs.Reached.{Begun, Reached, begun-early, start-reached, call-reached}
+use Rattle.domain.proofs.Turns.{Fair}
+use Rattle.witness.specs.Deliveries.{Honest}
+use Rattle.witness.proofs.Deliveries.{honest-call, share-arrives, switch-arrives, stray-arrives}
+use Rattle.witness.proofs.Wrote.{Named, named-after, start-named}
+
+-- a call that is no decision
+abbrev pub NoDecision : Call → Type 0
+NoDecision (atSwitch s x) = Unit {0}
+NoDecision (atController c (controller-calls.receives bytes)) = Unit {0}
+NoDecision (atController c (controller-calls.decides s serial cause)) = ⊥
+NoDecision (atController c (writesShare s frame at)) = Unit {0}
+
+module _ (S : Setting) (v : Valid S) where
+  -- a list of calls goes on with another, and a run within the premises with calls within them
+  pub fair-join : (r : Run) (xs ys : List Call) → Fair S v r xs → Fair S v (run (step S) r xs) ys
+      → Fair S v r (xs ++ ys)
+  fair-join r xs ys f g = record {
+    in-run = every-join (step S) (InRun S) r xs ys (f .in-run) (g .in-run);
+    unforged = every-join (step S) (Unforged S) r xs ys (f .unforged) (g .unforged);
+    begun = subst (Begun S) (sym (run-append (step S) r xs ys)) (g .begun);
+  }
+
+  pub all-fair : (calls : List Call) → Premises S calls → Fair S v (start S) calls
+  all-fair calls p = record { in-run = p .in-run; unforged = p .unforged; begun = p .beginning }
+
+  pub premises-join : (calls more : List Call) → Premises S calls → Fair S v (run (step S) (start S) calls) more
+      → Premises S (calls ++ more)
+  premises-join calls more p f =
+      let all = fair-join (start S) calls more (all-fair calls p) f in
+      record { in-run = all .in-run; unforged = all .unforged; beginning = all .begun }
+
+  -- only a decision adds to what was brought
+  pub begun-on : (r : Run) (x : Call) → NoDecision x → Begun S r → Begun S (step S r x)
+  unfolding step decisions
+  begun-on r (atSwitch s x) h b c keeps = rw append-nil (b c keeps)
+  begun-on r (atController i (controller-calls.receives bytes)) h b c keeps = rw append-nil (b c keeps)
+  begun-on r (atController i (controller-calls.decides s serial cause)) h b c keeps = absurd h
+  begun-on r (atController i (writesShare s frame at)) h b c keeps = rw append-nil (b c keeps)
+
+  -- one call more
+  pub fair-call : (r : Run) (x : Call) → InRun S r x → Unforged S r x → NoDecision x → Begun S r
+      → Fair S v r (x ∷ [])
+  fair-call r x h honest quiet b = record { in-run = (h, tt); unforged = (honest, tt); begun = begun-on r x quiet b }
+
+  -- what was written in a run within the premises names its sender and receiver
+  named : (r : Run) → Reached S r → Named S (r .log) → (xs : List Call) → Fair S v r xs
+      → Named S (run (step S) r xs .log)
+  named r R n [] f = n
+  named r R n (x ∷ xs) f =
+      let b = begun-early S (step S r x) xs (f .begun) in
+      named (step S r x) (call-reached S v r R x (f .in-run .0) (f .unforged .0) b) (named-after S r R n x) xs
+      (record { in-run = f .in-run .1; unforged = f .unforged .1; begun = f .begun })
+
+  module _ (calls : List Call) (p : Premises S calls) where
+    abbrev r : Run
+    r = run (step S) (start S) calls
+
+    run-named : Named S (r .log)
+    run-named = named (start S) (start-reached S v) (start-named S) calls (all-fair calls p)
+
+    one-more : (x : Call) → InRun S r x → Honest S r x → NoDecision x → Premises S (calls ++ x ∷ [])
+    one-more x h honest quiet =
+        premises-join calls (x ∷ []) p (fair-call r x h (honest-call S r x honest) quiet (p .beginning))
+
+    -- what was written arrives, whenever that is
+    pub share-later : (s c : ℕ) (bytes : List ℕ) → s < 16 → Keeps S c → ControllerWrote (r .log) c s bytes
+        → Premises S (calls ++ atSwitch s (receives bytes) ∷ [])
+    share-later s c bytes l keeps wrote =
+        one-more (atSwitch s (receives bytes)) l
+        (share-arrives S r s c bytes (run-named .shares c s bytes keeps wrote) wrote) tt
+
+    pub switch-later : (s c : ℕ) (bytes : List ℕ) → s < 16 → Keeps S c → SwitchWrote (r .log) s c bytes
+        → Premises S (calls ++ atController c (controller-calls.receives bytes) ∷ [])
+    switch-later s c bytes l keeps wrote =
+        one-more (atController c (controller-calls.receives bytes)) keeps
+        (switch-arrives S r s c bytes (run-named .switches s c bytes l wrote) wrote) tt
+
+    -- and so does whatever a stray makes, with good tags too
+    pub stray-later : (s c : ℕ) (bytes : List ℕ) → s < 16 → S .strays c ≡ true
+        → FromController c s (decode ends.Switch bytes) → Premises S (calls ++ atSwitch s (receives bytes) ∷ [])
+    stray-later s c bytes l strays from =
+        one-more (atSwitch s (receives bytes)) l (stray-arrives S r s c bytes from strays) tt

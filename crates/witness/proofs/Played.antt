@@ -1,0 +1,224 @@
+-- From wherever a run within the premises has come to, the rounds as lists of calls are full rounds, and with them the
+-- run goes on within the premises; so it can always be brought to its end. Assumes nothing.
+use mathlib.Core.Path.{_≡_, refl, sym, ap₂, subst}
+use mathlib.Core.Bool.{true, not, _&&_}
+use mathlib.Core.List.{List, [], _∷_, _++_, append-nil, append-assoc, List·Memᴰ, List·Memᴰ·head, List·Memᴰ·tail}
+use Prim.Native.Nat.{ℕ, zero, suc, _<_}
+use native.Mathlib.Omega.{arith}
+use lib.Dec.{eqb}
+use lib.ListN.{take, replicate}
+use lib.Seq.{take-all}
+use borrow.Author.Tests.{eqb-true, eq-eqb, not-true}
+use Rattle.answer.proofs.Bools.{by-eq, and-parts, pick-keeps}
+use Rattle.message.specs.Layout.{shareLength, acknowledgementLength}
+use Rattle.switch.specs.Calls.{receives, writesAcknowledgement}
+use Rattle.switch.proofs.Sent.{acknowledgement-sent}
+use Rattle.controller.specs.Calls.{writesShare}
+use Rattle.controller.specs.Calls as controller
+use Rattle.controller.specs.declared.Undone.{Undone}
+use Rattle.protocol.specs.Runs.{run, Sometime, Rounds}
+use Rattle.protocol.proofs.Runs.{run-append, now, later}
+use Rattle.domain.specs.Settings.{Decision, Setting, Valid, playbook, Keeps, switchKeys}
+use Rattle.domain.specs.Calls.{Call, atSwitch, atController, Done, Run, start, step}
+use Rattle.domain.specs.Premises.{SwitchWrote, ControllerWrote, taken, InRun, Unforged, Premises}
+use Rattle.domain.specs.Premises as premises
+use Rattle.domain.specs.Agreement.{agreedChanges}
+use Rattle.domain.specs.Ideals.{isAmong}
+use Rattle.domain.specs.Rounds.{acknowledgementNow, shareNow, Delivered, Round}
+use Rattle.domain.specs.Claim.{answered, unmade}
+use Rattle.domain.proofs.AtController.{share-there}
+use Rattle.domain.proofs.Reached.{Begun, Reached, ranged, last-small, run-reached}
+use Rattle.domain.proofs.Delivered.{acknowledgement-answered}
+use Rattle.domain.proofs.Turns.{Fair, walked}
+use Rattle.domain.proofs.Theorem.{demand3}
+use Rattle.witness.specs.Deliveries.{Honest}
+use Rattle.witness.specs.Played.{tells, shares, forEach, firstHalf, secondHalf, round, rounds}
+use Rattle.witness.proofs.Deliveries.{honest-call, share-arrives, switch-arrives}
+use Rattle.witness.proofs.Wrote.{logged, share-wrote, acknowledgement-wrote}
+use Rattle.witness.proofs.Extended.{NoDecision, fair-join, fair-call, premises-join}
+
+-- what the log keeps of a call
+abbrev entry-of : Call → ℕ → List ℕ → Done
+entry-of x answer written = record { call = x; answer = answer; written = written }
+
+module _ (S : Setting) (v : Valid S) where
+  -- a list of calls for each number below k: within the premises if each is, wherever it begins
+  each-fair : (k : ℕ) (calls : Run → ℕ → List Call)
+      → ((u : Run) → Reached S u → Begun S u → (i : ℕ) → i < k → Fair S v u (calls u i))
+      → (r : Run) → Reached S r → Begun S r → Fair S v r (forEach S k calls r)
+  unfolding forEach
+  each-fair zero calls fair r R b = record { in-run = tt; unforged = tt; begun = b }
+  each-fair (suc k) calls fair r R b =
+      let f = fair r R b k (omega arith) in
+      fair-join S v r (calls r k) _ f
+      (each-fair k calls (λ u U c i l. fair u U c i (omega arith)) (run (step S) r (calls r k))
+      (walked S v r R (calls r k) f .reached) (f .begun))
+
+  -- and with a moment of each of them among its own
+  each-moment : (M : Run → List Call → Type 0) (k : ℕ) (calls : Run → ℕ → List Call) (i : ℕ) → i < k
+      → ((u : Run) (rest : List Call) → Sometime (step S) M u (calls u i ++ rest))
+      → (r : Run) (rest : List Call) → Sometime (step S) M r (forEach S k calls r ++ rest)
+  unfolding forEach
+  each-moment M zero calls i l moment r rest = absurd (omega arith)
+  each-moment M (suc k) calls i l moment r rest =
+      let after = run (step S) r (calls r k) in
+      rw (append-assoc (calls r k))
+      (by-eq i k
+      (λ e. subst (λ (j : ℕ). Sometime (step S) M r (calls r j ++ (forEach S k calls after ++ rest))) e
+      (moment r (forEach S k calls after ++ rest)))
+      (λ other. later (step S) M r (calls r k) _ (each-moment M k calls i (omega arith) moment after rest)))
+
+  -- two calls, the second of which brings what it may
+  at-once : (r : Run) → Begun S r → (x y : Call) → InRun S r x → Unforged S r x → NoDecision x
+      → InRun S (step S r x) y → Honest S (step S r x) y → NoDecision y → Fair S v r (x ∷ y ∷ [])
+  at-once r b x y h unforged quiet k honest silent =
+      let f = fair-call S v r x h unforged quiet b in
+      fair-join S v r (x ∷ []) (y ∷ []) f
+      (fair-call S v (step S r x) y k (honest-call S (step S r x) y honest) silent (f .begun))
+
+  module _ (r : Run) (R : Reached S r) (b : Begun S r) (s c : ℕ) (l : s < 16) (keeps : Keeps S c) where
+    -- an acknowledgement that is written and arrives
+    abbrev acknowledging : Call
+    acknowledging = atSwitch s (writesAcknowledgement c (replicate acknowledgementLength 0) 0)
+
+    acknowledgement-arrives : Fair S v r
+        (acknowledging ∷ atController c (controller.receives (acknowledgementNow S r s c .1)) ∷ [])
+    acknowledgement-arrives =
+        let bytes = acknowledgementNow S r s c .1 in
+        let small = last-small S v r R s in
+        let none = acknowledgement-answered S v r s c l (keeps .0) (R .switches s l) small in
+        let sent = acknowledgement-sent (r .switches s) (switchKeys S s) c (replicate acknowledgementLength 0) 0
+        none small in
+        let whole : take acknowledgementLength bytes ≡ bytes =
+        take-all acknowledgementLength bytes (omega (arith, sent .long)) in
+        let entry = ap₂ (entry-of acknowledging) none whole in
+        let next = step S r acknowledging in
+        let wrote : SwitchWrote (next .log) s c bytes =
+        rw (logged S r acknowledging) (premises.acknowledgement (List·Memᴰ·head (sym entry))) in
+        let named = rw whole at (acknowledgement-wrote S r R (replicate acknowledgementLength 0) 0 s c l none) in
+        at-once r b acknowledging (atController c (controller.receives bytes)) l tt tt keeps
+        (switch-arrives S next s c bytes named wrote) tt
+
+    -- a share that is written and arrives
+    abbrev sharing : Call
+    sharing = atController c (writesShare s (replicate shareLength 0) 0)
+
+    share-comes : shareNow S r c s .0 ≡ 0
+        → Fair S v r (sharing ∷ atSwitch s (receives (shareNow S r c s .1)) ∷ [])
+    share-comes none =
+        let bytes = shareNow S r c s .1 in
+        let begins = b c keeps in
+        let sent = share-there S v r c _ (R .controllers c keeps) (ranged S v) (begins .0) (begins .1) s
+        (replicate shareLength 0) 0 none in
+        let whole : take shareLength bytes ≡ bytes = take-all shareLength bytes (omega (arith, sent .long)) in
+        let entry = ap₂ (entry-of sharing) none whole in
+        let next = step S r sharing in
+        let wrote : ControllerWrote (next .log) c s bytes =
+        rw (logged S r sharing) (premises.share (List·Memᴰ·head (sym entry))) in
+        let named = rw whole at (share-wrote S r R (replicate shareLength 0) 0 c s keeps none) in
+        at-once r b sharing (atSwitch s (receives bytes)) keeps tt tt l (share-arrives S next s c bytes named wrote) tt
+
+  nothing-fair : (r : Run) → Begun S r → Fair S v r []
+  nothing-fair r b = record { in-run = tt; unforged = tt; begun = b }
+
+  -- the two halves of a round
+  tells-fair : (s : ℕ) → s < 16 → (r : Run) → Reached S r → Begun S r → (c : ℕ) → c < S .n → Fair S v r (tells S s r c)
+  tells-fair s l r R b c known =
+      pick-keeps (Fair S v r) (S .strays c) _ _ (λ e. nothing-fair r b)
+      (λ e. acknowledgement-arrives r R b s c l (known, e))
+
+  shares-fair : (s : ℕ) → s < 16 → (r : Run) → Reached S r → Begun S r → (c : ℕ) → c < S .n
+      → Fair S v r (shares S s r c)
+  shares-fair s l r R b c known =
+      pick-keeps (Fair S v r) (not (S .strays c) && eqb (shareNow S r c s .0) 0) _ _
+      (λ e. let both = and-parts (not (S .strays c)) (eqb (shareNow S r c s .0) 0) e in
+      share-comes r R b s c l (known, not-true _ (both .0)) (eqb-true _ _ (both .1)))
+      (λ e. nothing-fair r b)
+
+  first-fair : (r : Run) → Reached S r → Begun S r → Fair S v r (firstHalf S r)
+  first-fair =
+      each-fair 16 (λ u s. forEach S (S .n) (tells S s) u)
+      (λ u U b s l. each-fair (S .n) (tells S s) (tells-fair s l) u U b)
+
+  second-fair : (r : Run) → Reached S r → Begun S r → Fair S v r (secondHalf S r)
+  second-fair =
+      each-fair 16 (λ u s. forEach S (S .n) (shares S s) u)
+      (λ u U b s l. each-fair (S .n) (shares S s) (shares-fair s l) u U b)
+
+  round-fair : (r : Run) → Reached S r → Begun S r → Fair S v r (round S r)
+  round-fair r R b =
+      let f = first-fair r R b in
+      fair-join S v r (firstHalf S r) _ f
+      (second-fair (run (step S) r (firstHalf S r)) (walked S v r R (firstHalf S r) f .reached) (f .begun))
+
+  pub rounds-fair : (k : ℕ) (r : Run) → Reached S r → Begun S r → Fair S v r (rounds S k r)
+  unfolding rounds
+  rounds-fair zero r R b = nothing-fair r b
+  rounds-fair (suc k) r R b =
+      let f = round-fair r R b in
+      fair-join S v r (round S r) _ f
+      (rounds-fair k (run (step S) r (round S r)) (walked S v r R (round S r) f .reached) (f .begun))
+
+  -- in which what each end would write reaches the other
+  module _ (s c : ℕ) (l : s < 16) (keeps : Keeps S c) where
+    abbrev Told : Run → List Call → Type 0
+    Told u rest = acknowledgementNow S u s c .0 ≡ 0
+        → List·Memᴰ (atController c (controller.receives (acknowledgementNow S u s c .1))) rest
+
+    abbrev Sent : Run → List Call → Type 0
+    Sent u rest = shareNow S u c s .0 ≡ 0 → List·Memᴰ (atSwitch s (receives (shareNow S u c s .1))) rest
+
+    told : (r : Run) → Delivered S (λ u. acknowledgementNow S u s c)
+        (λ bytes. atController c (controller.receives bytes)) r (firstHalf S r)
+    told r =
+        rw append-nil at (each-moment Told 16 (λ u i. forEach S (S .n) (tells S i) u) s l
+        (each-moment Told (S .n) (tells S s) c (keeps .0)
+        (λ u rest. rw (keeps .1) (now (step S) Told u _ (λ e. List·Memᴰ·tail (List·Memᴰ·head refl))))) r [])
+
+    sent : (r : Run) → Delivered S (λ u. shareNow S u c s) (λ bytes. atSwitch s (receives bytes)) r (secondHalf S r)
+    sent r =
+        rw append-nil at (each-moment Sent 16 (λ u i. forEach S (S .n) (shares S i) u) s l
+        (each-moment Sent (S .n) (shares S s) c (keeps .0)
+        (λ u rest. now (step S) Sent u (shares S s u c ++ rest) (λ e.
+        rw (keeps .1, eq-eqb (shareNow S u c s .0) 0 e) (List·Memᴰ·tail (List·Memᴰ·head refl))))) r [])
+
+  round-full : (r : Run) → Round S r (firstHalf S r) (secondHalf S (run (step S) r (firstHalf S r)))
+  round-full r = record {
+    acknowledged = λ s c l keeps. told s c l keeps r;
+    shared = λ s c l keeps. sent s c l keeps (run (step S) r (firstHalf S r));
+  }
+
+  pub rounds-full : (k : ℕ) (r : Run) → Rounds (step S) (Round S) k r (rounds S k r)
+  unfolding rounds
+  rounds-full zero r = tt
+  rounds-full (suc k) r =
+      let first = firstHalf S r in
+      let second = secondHalf S (run (step S) r first) in
+      let rest = rounds S k (run (step S) r (round S r)) in (
+        [],
+        first,
+        second,
+        rest,
+        append-assoc first second rest,
+        round-full r,
+        subst (λ u. Rounds (step S) (Round S) k u rest) (run-append (step S) r first second)
+            (rounds-full k (run (step S) r (round S r))),
+      )
+
+  module _ (calls : List Call) (p : Premises S calls) where
+    abbrev reached : Run
+    reached = run (step S) (start S) calls
+
+    -- a run goes on with as many full rounds as one likes
+    pub rounds-follow : (k : ℕ) → Premises S (calls ++ rounds S k reached)
+    rounds-follow k =
+        premises-join S v calls _ p (rounds-fair k reached (run-reached S v calls p) (p .beginning))
+
+    -- and so, where the controllers have taken the same decisions, to where all changes of these are made
+    pub brought-to-end : (ds : List Decision) → ((c : ℕ) → Keeps S c → taken c (reached .log) ≡ ds)
+        → (u : Undone) → List·Memᴰ u (agreedChanges (playbook S) ds)
+        → isAmong (u .number) (answered S (run (step S) (start S)
+        (calls ++ rounds S (unmade S (agreedChanges (playbook S) ds) reached) reached))) ≡ true
+    brought-to-end ds same =
+        let k = unmade S (agreedChanges (playbook S) ds) reached in
+        demand3 S v .live calls (rounds S k reached) (rounds-follow k) ds same (rounds-full k reached)

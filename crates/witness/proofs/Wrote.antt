@@ -1,0 +1,164 @@
+-- What an end wrote names that end and its receiver, be the numbers in it in range or not; so it does in the log of
+-- every run within the premises. Assumes nothing.
+use mathlib.Core.Path.{_≡_, refl, sym, ap, _∙_}
+use mathlib.Core.List.{List, [], _∷_, List·Memᴰ·cases-cons, List·Memᴰ·not-nil}
+use mathlib.Core.Logic.{⊎-elim}
+use Prim.Native.Nat.{ℕ, _<_}
+use Rattle.flow.specs.declared.Rule.{Rule}
+use Rattle.message.specs.Keys.{keyAt}
+use Rattle.message.specs.Layout.{eventLength, shareLength, acknowledgementLength}
+use Rattle.message.specs.Reading.{decode}
+use Rattle.message.specs.Writing.{encode}
+use Rattle.message.specs.declared.End.the-variants as ends
+use Rattle.message.specs.declared.Message.the-variants.{Event, Share, Acknowledgement}
+use Rattle.message.proofs.Ends.{decode-event, decode-share, decode-acknowledgement}
+use Rattle.message.proofs.Lengths.{encode-length}
+use Rattle.switch.specs.Calls as switch-calls
+use Rattle.switch.specs.Calls.{writesEvent, writesAcknowledgement}
+use Rattle.switch.specs.Writing.{eventFor, acknowledgementFor, eventWritten, acknowledgementWritten}
+use Rattle.switch.proofs.Sent.{sent-bytes}
+use Rattle.controller.specs.Calls as controller-calls
+use Rattle.controller.specs.Calls.{writesShare}
+use Rattle.controller.specs.Writing.{shareOf, shareWritten}
+use Rattle.controller.proofs.Sent.{allowed, share-bytes}
+use Rattle.domain.specs.Settings.{Setting, Keeps, switchKeys, controllerKeys}
+use Rattle.domain.specs.Calls.{Call, atSwitch, atController, Done, Run, start, step}
+use Rattle.domain.specs.Calls.{part, switchWrites, controllerWrites}
+use Rattle.domain.specs.Premises.{SwitchWrote, ControllerWrote, FromSwitch, FromController}
+use Rattle.domain.specs.Premises as premises
+use Rattle.domain.proofs.Reached.{Reached}
+
+-- the bytes of each kind of message
+module _ (key : List ℕ) where
+  share-named : (c s k : ℕ) (rule : Rule) → FromController c s (decode ends.Switch (encode key (Share c s k rule)))
+  share-named c s k rule = rw (decode-share _ (encode-length key (Share c s k rule)) refl) premises.share
+
+  event-named : (s c serial cause : ℕ)
+      → FromSwitch s c (decode ends.Controller (encode key (Event s c serial cause)))
+  event-named s c serial cause = rw (decode-event _ (encode-length key (Event s c serial cause)) refl) premises.event
+
+  acknowledgement-named : (s c k : ℕ) → FromSwitch s c (decode ends.Controller (encode key (Acknowledgement s c k)))
+  acknowledgement-named s c k =
+      rw (decode-acknowledgement _ (encode-length key (Acknowledgement s c k)) refl) premises.acknowledgement
+
+module _ (S : Setting) where
+  -- what the log keeps of a call
+  abbrev pub latest : Run → Call → Done
+  latest r (atSwitch s x) = record {
+    call = atSwitch s x;
+    answer = switch-calls.replyTo (switchKeys S s) (r .switches s) x .answer;
+    written = switchWrites (switchKeys S s) (r .switches s) x;
+  }
+  latest r (atController c x) = record {
+    call = atController c x;
+    answer = controller-calls.replyTo (controllerKeys S c) (r .controllers c) x .answer;
+    written = controllerWrites (controllerKeys S c) (r .controllers c) x;
+  }
+
+  pub logged : (r : Run) (x : Call) → step S r x .log ≡ latest r x ∷ r .log
+  unfolding step
+  logged r (atSwitch s x) = refl
+  logged r (atController c x) = refl
+
+  latest-call : (r : Run) (x : Call) → latest r x .call ≡ x
+  latest-call r (atSwitch s x) = refl
+  latest-call r (atController c x) = refl
+
+  -- what was written so far names its sender and receiver
+  pub record Named (log : List Done) : Type 0 where
+    pub shares : (c s : ℕ) (bytes : List ℕ) → Keeps S c → ControllerWrote log c s bytes
+        → FromController c s (decode ends.Switch bytes)
+    pub switches : (s c : ℕ) (bytes : List ℕ) → s < 16 → SwitchWrote log s c bytes
+        → FromSwitch s c (decode ends.Controller bytes)
+
+  module _ (r : Run) (R : Reached S r) (frame : List ℕ) (at : ℕ) where
+    -- a writing answered 0
+    pub share-wrote : (c s : ℕ) → Keeps S c
+        → shareWritten (r .controllers c) (controllerKeys S c) s frame at .0 .answer ≡ 0
+        → FromController c s
+        (decode ends.Switch (part shareLength at (shareWritten (r .controllers c) (controllerKeys S c) s frame at .1)))
+    share-wrote c s keeps e =
+        let t = r .controllers c in
+        let a = allowed t (controllerKeys S c) s frame at e in
+        let u = a .change in
+        let key = keyAt (controllerKeys S c) s in
+        let is : part shareLength at (shareWritten t (controllerKeys S c) s frame at .1)
+        ≡ encode key (Share c s (u .number) (u .rule)) =
+        share-bytes t (controllerKeys S c) s frame at e
+        ∙ ap (λ x. encode key (shareOf (t .id) s x)) (a .ready)
+        ∙ ap (λ (i : ℕ). encode key (Share i s (u .number) (u .rule))) (R .controllers c keeps .id) in
+        rw is (share-named key c s (u .number) (u .rule))
+
+    pub event-wrote : (s c : ℕ) → s < 16 → eventWritten (r .switches s) (switchKeys S s) c frame at .0 .answer ≡ 0
+        → FromSwitch s c
+        (decode ends.Controller (part eventLength at (eventWritten (r .switches s) (switchKeys S s) c frame at .1)))
+    event-wrote s c l e =
+        let t = r .switches s in
+        let key = keyAt (switchKeys S s) c in
+        let event = t .raised in
+        let is : part eventLength at (eventWritten t (switchKeys S s) c frame at .1)
+        ≡ encode key (Event s c (event .serial) (event .cause)) =
+        sent-bytes t (switchKeys S s) c (eventFor t c) _ frame at e
+        ∙ ap (λ (i : ℕ). encode key (Event i c (event .serial) (event .cause))) (R .switches s l .id) in
+        rw is (event-named key s c (event .serial) (event .cause))
+
+    pub acknowledgement-wrote : (s c : ℕ) → s < 16
+        → acknowledgementWritten (r .switches s) (switchKeys S s) c frame at .0 .answer ≡ 0
+        → FromSwitch s c
+        (decode ends.Controller
+        (part acknowledgementLength at (acknowledgementWritten (r .switches s) (switchKeys S s) c frame at .1)))
+    acknowledgement-wrote s c l e =
+        let t = r .switches s in
+        let key = keyAt (switchKeys S s) c in
+        let is : part acknowledgementLength at (acknowledgementWritten t (switchKeys S s) c frame at .1)
+        ≡ encode key (Acknowledgement s c (t .last)) =
+        sent-bytes t (switchKeys S s) c (acknowledgementFor t c) _ frame at e
+        ∙ ap (λ (i : ℕ). encode key (Acknowledgement i c (t .last))) (R .switches s l .id) in
+        rw is (acknowledgement-named key s c (t .last))
+
+  module _ (r : Run) (R : Reached S r) where
+    -- an entry of the log that is the latest call's, by the call that it names
+    latest-is : (x y : Call) (bytes : List ℕ) → record { call = y; answer = 0; written = bytes } ≡ latest r x
+        → (latest r y .answer ≡ 0) × (bytes ≡ latest r y .written)
+    latest-is x y bytes e =
+        let same : x ≡ y = sym (latest-call r x) ∙ sym (ap (λ (d : Done). d .call) e) in
+        let here = e ∙ ap (latest r) same in
+        (sym (ap (λ (d : Done). d .answer) here), ap (λ (d : Done). d .written) here)
+
+    controller-more : Named (r .log) → (x : Call) (c s : ℕ) (bytes : List ℕ) → Keeps S c
+        → ControllerWrote (latest r x ∷ r .log) c s bytes → FromController c s (decode ends.Switch bytes)
+    controller-more named x c s bytes keeps (premises.share {frame} {at} h) =
+        ⊎-elim
+        (λ e. let here = latest-is x (atController c (writesShare s frame at)) bytes e in
+        rw (here .1) (share-wrote r R frame at c s keeps (here .0)))
+        (λ t. named .shares c s bytes keeps (premises.share t)) (List·Memᴰ·cases-cons h)
+
+    switch-more : Named (r .log) → (x : Call) (s c : ℕ) (bytes : List ℕ) → s < 16
+        → SwitchWrote (latest r x ∷ r .log) s c bytes → FromSwitch s c (decode ends.Controller bytes)
+    switch-more named x s c bytes l (premises.event {frame} {at} h) =
+        ⊎-elim
+        (λ e. let here = latest-is x (atSwitch s (writesEvent c frame at)) bytes e in
+        rw (here .1) (event-wrote r R frame at s c l (here .0)))
+        (λ t. named .switches s c bytes l (premises.event t)) (List·Memᴰ·cases-cons h)
+    switch-more named x s c bytes l (premises.acknowledgement {frame} {at} h) =
+        ⊎-elim
+        (λ e. let here = latest-is x (atSwitch s (writesAcknowledgement c frame at)) bytes e in
+        rw (here .1) (acknowledgement-wrote r R frame at s c l (here .0)))
+        (λ t. named .switches s c bytes l (premises.acknowledgement t)) (List·Memᴰ·cases-cons h)
+
+    pub named-after : Named (r .log) → (x : Call) → Named (step S r x .log)
+    named-after named x =
+        rw (logged r x) (record { shares = controller-more named x; switches = switch-more named x })
+
+  none-wrote : {c s : ℕ} {bytes : List ℕ} → ControllerWrote [] c s bytes → ⊥
+  none-wrote (premises.share h) = List·Memᴰ·not-nil h
+
+  none-said : {s c : ℕ} {bytes : List ℕ} → SwitchWrote [] s c bytes → ⊥
+  none-said (premises.event h) = List·Memᴰ·not-nil h
+  none-said (premises.acknowledgement h) = List·Memᴰ·not-nil h
+
+  pub start-named : Named (start S .log)
+  start-named = record {
+    shares = λ c s bytes keeps w. absurd (none-wrote w);
+    switches = λ s c bytes l w. absurd (none-said w);
+  }
