@@ -9,6 +9,7 @@ use lib.Dec.{ltb}
 use lib.ListN.{length, getD}
 use borrow.Author.Tests.{ltb-true, lt-ltb, le-leb, eq-eqb, ne-eqb}
 use Rattle.answer.proofs.Bools.{by-bool, and-join, and-parts, or-right}
+use Rattle.lists.specs.Kinds.{isAmong}
 use Rattle.lists.proofs.Tails.{every-all}
 use Rattle.flow.specs.declared.Rule.{Rule}
 use Rattle.flow.specs.declared.Table.{Table}
@@ -19,7 +20,7 @@ use Rattle.protocol.specs.Ends as protocol
 use Rattle.protocol.specs.Claims.{Next, Lawful, tableAfter}
 use Rattle.protocol.proofs.Families.{upd-at}
 use Rattle.domain.specs.Settings.{Setting, Valid, playbook}
-use Rattle.domain.specs.Ideals.{Ideal, isAmong, changeOf, skipsNone, accepts, feed, fed}
+use Rattle.domain.specs.Ideals.{Ideal, changeOf, skipsNone, accepts, feed, fed}
 use Rattle.domain.specs.Claim.{agreed}
 use Rattle.domain.proofs.View.{related, domainOf}
 use Rattle.domain.proofs.Agreed.{change-fine}

@@ -8,6 +8,7 @@ use native.Mathlib.Omega.{arith}
 use lib.ListN.{length, getD}
 use borrow.Author.Tests.{ltb-true, not-true}
 use Rattle.answer.proofs.Bools.{is-false}
+use Rattle.lists.specs.Kinds.{isAmong}
 use Rattle.flow.specs.declared.Rule.{Rule}
 use Rattle.flow.specs.declared.Table.{Table}
 use Rattle.controller.specs.Changes.{emptyUndone}
@@ -23,7 +24,6 @@ use Rattle.domain.specs.Settings.{Decision, Setting, Valid, playbook, Ke
 use Rattle.domain.specs.Calls.{Call, Run, start, step}
 use Rattle.domain.specs.Premises.{brought, taken, Premises}
 use Rattle.domain.specs.Agreement.{agreedChanges}
-use Rattle.domain.specs.Ideals.{isAmong}
 use Rattle.domain.specs.Rounds.{Round}
 use Rattle.domain.specs.Claim.{agreed, answered, unmade}
 use Rattle.domain.proofs.Courses.{agreed-fine}

@@ -13,7 +13,7 @@ use borrow.Author.Tests.{ltb-true, ltb-false, eqb-true, eqb-false, eq-eqb, ne-eq
 use Rattle.answer.proofs.Bools.{by-bool, by-or, by-eq, tf, or-left, or-right, pick-keeps}
 use Rattle.lists.specs.Bytes.{field}
 use Rattle.lists.specs.Counts.{passing}
-use Rattle.lists.specs.Kinds.{among}
+use Rattle.lists.specs.Kinds.{among, isAmong}
 use Rattle.flow.specs.declared.Rule.{Rule}
 use Rattle.message.specs.Layout.{numberAt}
 use Rattle.message.specs.Reading.{decode}
@@ -21,7 +21,6 @@ use Rattle.message.specs.declared.End.the-variants as ends
 use Rattle.switch.specs.Calls.{receives, raises, writesEvent, writesAcknowledgement}
 use Rattle.protocol.specs.Worlds as protocol-worlds
 use Rattle.domain.specs.Calls.{Call, atSwitch, atController, Done}
-use Rattle.domain.specs.Ideals.{isAmong}
 use Rattle.domain.specs.Claim.{Made, madeBy, made, numbers, numbersAt, highest}
 use Rattle.domain.proofs.View.{ruleIn, madeIn, madeSo}
 

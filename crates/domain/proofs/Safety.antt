@@ -8,6 +8,7 @@ use lib.Dec.{eqb}
 use borrow.Author.Tests.{eqb-true, eq-eqb}
 use Rattle.answer.proofs.Bools.{and-join, and-parts}
 use Rattle.lists.specs.Bytes.{field}
+use Rattle.lists.specs.Kinds.{isAmong}
 use Rattle.flow.specs.declared.Rule.{Rule}
 use Rattle.flow.specs.declared.Table.{Table}
 use Rattle.message.specs.Layout.{numberAt}
@@ -23,7 +24,7 @@ use Rattle.protocol.specs.Claims.{Lawful}
 use Rattle.protocol.proofs.Orders.{lawful-agreed, falling-lawful, falling-tables}
 use Rattle.domain.specs.Settings.{Setting, Valid}
 use Rattle.domain.specs.Calls.{atSwitch, Run}
-use Rattle.domain.specs.Ideals.{isAmong, changeOf, fed}
+use Rattle.domain.specs.Ideals.{changeOf, fed}
 use Rattle.domain.specs.Claim.{made, numbersAt, highest, Carries, agreed, answered, Safe}
 use Rattle.domain.proofs.View.{domainOf, viewSwitch, ruleIn, madeSo}
 use Rattle.domain.proofs.Agreed.{change-fine, laws}

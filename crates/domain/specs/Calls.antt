@@ -2,7 +2,7 @@
 -- state that the last call there returned (document 01, "Controller end", the run). Assumes nothing.
 use Prim.Native.Nat.{ℕ}
 use mathlib.Core.List.{List, [], _∷_}
-use lib.ListN.{take, drop}
+use Rattle.lists.specs.Bytes.{part}
 use Rattle.message.specs.Layout.{eventLength, shareLength, acknowledgementLength}
 use Rattle.switch.specs.States as switch
 use Rattle.switch.specs.Writing.{eventWritten, acknowledgementWritten}
@@ -34,10 +34,6 @@ pub record Run : Type 0 where
   pub switches : ℕ → Switch
   pub controllers : ℕ → Controller
   pub log : List Done
-
--- so many bytes of a frame from an offset
-abbrev pub part : ℕ → ℕ → List ℕ → List ℕ
-part size at frame = take size (drop at frame)
 
 -- what a call leaves in its frame where its message goes; nothing where it has no frame
 abbrev pub switchWrites : List ℕ → Switch → switch-calls.Call → List ℕ

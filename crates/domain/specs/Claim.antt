@@ -7,6 +7,7 @@ use Prim.Native.Nat.{ℕ, _<_}
 use lib.Dec.{ltb, eqb}
 use Rattle.answer.specs.Ask.{pick}
 use Rattle.lists.specs.Counts.{count, passing}
+use Rattle.lists.specs.Kinds.{isAmong}
 use Rattle.message.specs.Reading.{decode}
 use Rattle.message.specs.declared.End.the-variants as ends
 use Rattle.message.specs.declared.Message.the-variants.{Share}
@@ -19,7 +20,7 @@ use Rattle.domain.specs.Settings.{Decision, Setting, playbook, Keeps}
 use Rattle.domain.specs.Calls.{Call, atSwitch, atController, Done, Run, start, step}
 use Rattle.domain.specs.Premises.{taken, Premises}
 use Rattle.domain.specs.Agreement.{agreedChanges}
-use Rattle.domain.specs.Ideals.{isAmong, fed}
+use Rattle.domain.specs.Ideals.{fed}
 use Rattle.domain.specs.Rounds.{Round}
 
 -- a share answered 1: its switch, and the number in it

@@ -3,11 +3,11 @@
 use Prim.Native.Nat.{ℕ, _-_}
 use mathlib.Core.Bool.{Bool, not, _&&_, _||_}
 use mathlib.Core.List.{List, [], _∷_}
-use lib.Dec.{leb, eqb}
+use lib.Dec.{leb}
 use lib.ListN.{length, getD}
 use Rattle.answer.specs.Ask.{pick}
 use Rattle.lists.specs.Arrays.{every}
-use Rattle.lists.specs.Kinds.{among}
+use Rattle.lists.specs.Kinds.{isAmong}
 use Rattle.flow.specs.Tables.{tableOf}
 use Rattle.flow.specs.Changes.{changed}
 use Rattle.flow.specs.declared.Table.{Table}
@@ -21,9 +21,6 @@ pub record Ideal : Type 0 where
   pub tables : ℕ → Table
   pub made : List ℕ
   pub refused : List ℕ
-
-abbrev pub isAmong : ℕ → List ℕ → Bool
-isAmong k ks = among eqb k ks
 
 module _ (agreed : List Undone) where
   -- whether a number is that of an agreed change, and that change: they are numbered from 1 on, in their order

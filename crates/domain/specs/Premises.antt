@@ -59,10 +59,11 @@ unfoldable pub decisions : (ℕ → Bool) → ℕ → List Done → List Decisio
 decisions test c [] = []
 decisions test c (d ∷ log) = decisions test c log ++ decisionIn test c (d .answer) (d .call)
 
--- a controller's decisions, those answered 24 aside; and those that it took
+-- whether a decision so answered counts as brought: one answered 24 is brought again
 abbrev pub isBrought : ℕ → Bool
 isBrought answer = not (eqb answer 24)
 
+-- a controller's decisions, those answered 24 aside; and those that it took
 abbrev pub brought : ℕ → List Done → List Decision
 brought = decisions isBrought
 

@@ -1,5 +1,6 @@
 -- Numbers and their bytes, at every width. Assumes nothing.
 use mathlib.Core.Path.{_≡_, refl, sym, ap, ap₂, _∙_}
+use mathlib.Core.Bool.{true}
 use mathlib.Core.List.{List, [], _∷_, _++_}
 use Prim.Native.Nat.{ℕ, zero, suc, _+_, _*_, _/_, _%_, _^_, _≤_, _<_}
 use native.Mathlib.Nat.{pow-suc, pow-succ', suc-add, add-suc, add-zero, add-mul, mul-assoc, mul-comm}
@@ -7,9 +8,13 @@ use native.Mathlib.Nat.{add-assoc, mod-one, div-div-eq-div-mul, div-add-mod', mo
 use native.Mathlib.Nat.{mul-add-mod-self-right}
 use native.Mathlib.Omega.{arith}
 use lib.Arith.{mod-mul, digits-lt, digits-div}
+use lib.Dec.{ltb}
 use lib.Pow.{pow-add}
 use lib.ListN.{length, getD, take, drop, length-append, length-drop}
 use lib.Seq.{take-add, drop-drop, drop-cons, length-take-le, getD-drop}
+use borrow.Author.Tests.{ltb-true}
+use Rattle.answer.proofs.Bools.{and-parts}
+use Rattle.lists.specs.Arrays.{everyTail, every}
 use Rattle.lists.specs.Bytes.{be, num, field, AreBytes}
 
 pub pos : (k : ℕ) → 0 < 256 ^ k
@@ -123,6 +128,13 @@ field-one s at h = ap (λ (t : List ℕ). num (take 1 t)) (drop-cons s at 0 h) �
   where
     one : (x : ℕ) → num (x ∷ []) ≡ x
     one x = omega arith
+
+-- bytes by a test of each; a part of bytes is bytes
+pub bytes-tested : (l : List ℕ) → every (λ b. ltb b 256) l ≡ true → AreBytes l
+unfolding everyTail
+bytes-tested [] h i = omega arith
+bytes-tested (b ∷ l) h zero = ltb-true _ _ (and-parts (ltb b 256) (every (λ b. ltb b 256) l) h .0)
+bytes-tested (b ∷ l) h (suc i) = bytes-tested l (and-parts (ltb b 256) (every (λ b. ltb b 256) l) h .1) i
 
 pub bytes-take : (k : ℕ) (l : List ℕ) → AreBytes l → AreBytes (take k l)
 bytes-take zero l h i = omega arith

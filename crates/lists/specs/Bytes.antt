@@ -13,9 +13,13 @@ unfoldable pub num : List ℕ → ℕ
 num [] = 0
 num (b ∷ bs) = b * 256 ^ length bs + num bs
 
+-- so many bytes from an offset, as many of them as there are
+abbrev pub part : ℕ → ℕ → List ℕ → List ℕ
+part k at s = take k (drop at s)
+
 -- the number in the k bytes from an offset
 unfoldable pub field : List ℕ → ℕ → ℕ → ℕ
-field s at k = num (take k (drop at s))
+field s at k = num (part k at s)
 
 -- the byte at a place, 0 past the end
 abbrev pub byteAt : List ℕ → ℕ → ℕ

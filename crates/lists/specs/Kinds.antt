@@ -2,6 +2,7 @@
 use Prim.Native.Nat.{ℕ, suc}
 use mathlib.Core.Bool.{Bool, true, false, not, _&&_, _||_}
 use mathlib.Core.List.{List, [], _∷_}
+use lib.Dec.{eqb}
 use Rattle.answer.specs.Ask.{pick}
 
 module _ {A : Type 0} (eq : A → A → Bool) where
@@ -19,3 +20,7 @@ module _ {A : Type 0} (eq : A → A → Bool) where
   unfoldable pub kinds : List A → ℕ
   kinds [] = 0
   kinds (x ∷ xs) = pick (among x xs) (kinds xs) (suc (kinds xs))
+
+-- whether a number is among some
+abbrev pub isAmong : ℕ → List ℕ → Bool
+isAmong k ks = among eqb k ks

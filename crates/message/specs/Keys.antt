@@ -2,7 +2,7 @@
 -- Assumes nothing.
 use Prim.Native.Nat.{ℕ, _*_}
 use mathlib.Core.List.{List}
-use lib.ListN.{take, drop}
+use Rattle.lists.specs.Bytes.{part}
 
 -- the bytes of a key
 abbrev pub keyLength : ℕ
@@ -10,4 +10,4 @@ keyLength = 32
 
 -- the key of the end with a number
 abbrev pub keyAt : List ℕ → ℕ → List ℕ
-keyAt keys i = take keyLength (drop (keyLength * i) keys)
+keyAt keys i = part keyLength (keyLength * i) keys

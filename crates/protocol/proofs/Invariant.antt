@@ -8,10 +8,10 @@ use Prim.Native.Nat.{ℕ, _≤_, _<_}
 use native.Mathlib.Omega.{arith}
 use borrow.Author.Tests.{eqb-true}
 use Rattle.answer.proofs.Bools.{tf, is-false, and-parts}
-use Rattle.lists.specs.Kinds.{among}
+use Rattle.lists.specs.Kinds.{among, isAmong}
 use Rattle.protocol.specs.Ends.{Domain, Slot, slotFor, holds, agreeing}
 use Rattle.protocol.specs.Worlds.{Message, share, acknowledgement, World, start, Agreed}
-use Rattle.protocol.specs.Claims.{Laws, isAmong, numbers, tableAfter, Safe}
+use Rattle.protocol.specs.Claims.{Laws, numbers, tableAfter, Safe}
 use Rattle.protocol.proofs.Families.{pigeon, count-none}
 
 module _ {Content Table : Type 0} where
@@ -56,7 +56,7 @@ module _ {Content Table : Type 0} where
       pub held : (s c : ℕ) → SoundSlot (lasts w) s c (w .switches s .slots c)
       pub short : (s k : ℕ) (x : Content) → 0 < k → agreeing D k x (w .switches s .slots) < D .quorum
       pub safe : Safe D (w .switches) (w .made)
-      pub all-made : (k : ℕ) → Agreed D k → k ≤ lasts w (D .switch k) → isAmong D k (numbers D (w .made)) ≡ true
+      pub all-made : (k : ℕ) → Agreed D k → k ≤ lasts w (D .switch k) → isAmong k (numbers D (w .made)) ≡ true
 
     module _ (L : Laws D) where
       -- a slot that holds a number and content

@@ -9,7 +9,7 @@ use native.Mathlib.Omega.{arith}
 use lib.Dec.{eqb}
 use borrow.Author.Tests.{eqb-true, eq-eqb, ne-eqb}
 use Rattle.answer.proofs.Bools.{by-bool, by-eq, by-or, tf, is-false, or-left, or-right}
-use Rattle.lists.specs.Kinds.{among}
+use Rattle.lists.specs.Kinds.{among, isAmong}
 use Rattle.protocol.specs.Runs.{run, Every}
 use Rattle.protocol.specs.Ends.{Domain, Slot, Switch, Controller, Reply, slotFor, unchanged, stored, holds}
 use Rattle.protocol.specs.Ends.{agreeing}
@@ -17,7 +17,7 @@ use Rattle.protocol.specs.Ends.{applied}
 use Rattle.protocol.specs.Worlds.{Message, share, World, Call, decides, writesShare}
 use Rattle.protocol.specs.Worlds.{takesShare, writesAcknowledgement, takesAcknowledgement, other}
 use Rattle.protocol.specs.Worlds.{writes, atController, atSwitch, start, step, Agreed, Ready, Allowed}
-use Rattle.protocol.specs.Claims.{Laws, isAmong, numbers, Next, tableAfter, Safe}
+use Rattle.protocol.specs.Claims.{Laws, numbers, Next, tableAfter, Safe}
 use Rattle.protocol.proofs.Families.{upd-same, upd-other, upd-at, count-mono}
 use Rattle.protocol.proofs.Runs.{run-keeps}
 use Rattle.protocol.proofs.Steps.{acknowledged-at, reply-stays, emptied-at, Taken, refused, repeated, held, made}
@@ -28,7 +28,7 @@ use Rattle.protocol.proofs.Invariant.{Invariant, start-invariant, holds
 module _ {Content Table : Type 0} (D : Domain Content Table) where
   -- the last applied number of a switch, if any, is one that was made, and on it
   abbrev LastMade : ℕ → Switch Content Table → List ℕ → Type 0
-  LastMade s v ks = 0 < v .last → (isAmong D (v .last) ks ≡ true) × (D .switch (v .last) ≡ s)
+  LastMade s v ks = 0 < v .last → (isAmong (v .last) ks ≡ true) × (D .switch (v .last) ≡ s)
 
   -- a slot as applied numbers grow, where its own switch's stays
   slot-grows : {a b : ℕ → ℕ} {s c : ℕ} {slot : Slot Content} → ((t : ℕ) → a t ≤ b t) → a s ≡ b s

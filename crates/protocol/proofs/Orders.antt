@@ -9,30 +9,30 @@ use lib.Dec.{ltb, eqb}
 use borrow.Author.Tests.{ltb-true, eqb-true, eq-eqb, ne-eqb}
 use Rattle.answer.specs.Ask.{pick}
 use Rattle.answer.proofs.Bools.{by-bool, by-or, tf, or-left, or-right, or-none, or-join}
-use Rattle.lists.specs.Kinds.{among}
+use Rattle.lists.specs.Kinds.{among, isAmong}
 use Rattle.protocol.specs.Orders.{insert, falling}
 use Rattle.protocol.specs.Ends.{Domain}
 use Rattle.protocol.specs.Worlds.{Agreed}
-use Rattle.protocol.specs.Claims.{Laws, isAmong, Next, Lawful, tableAfter}
+use Rattle.protocol.specs.Claims.{Laws, Next, Lawful, tableAfter}
+
+-- sorting keeps the members
+insert-among : (i k : ℕ) (js : List ℕ) → isAmong i (insert k js) ≡ (eqb k i || isAmong i js)
+unfolding insert among
+insert-among i k [] = refl
+insert-among i k (j ∷ js) =
+    by-bool (ltb k j) (λ e. rw (e, insert-among i k js) (swap (eqb j i) (eqb k i) (isAmong i js))) (λ e. rw e)
+  where
+    swap : (a b c : Bool) → (a || (b || c)) ≡ (b || (a || c))
+    swap true true c = refl
+    swap true false c = refl
+    swap false b c = refl
+
+falling-among : (i : ℕ) (ks : List ℕ) → isAmong i (falling ks) ≡ isAmong i ks
+unfolding falling among
+falling-among i [] = refl
+falling-among i (k ∷ ks) = insert-among i k (falling ks) ∙ rw (falling-among i ks)
 
 module _ {Content Table : Type 0} (D : Domain Content Table) where
-  -- sorting keeps the members
-  insert-among : (i k : ℕ) (js : List ℕ) → isAmong D i (insert k js) ≡ (eqb k i || isAmong D i js)
-  unfolding insert among
-  insert-among i k [] = refl
-  insert-among i k (j ∷ js) =
-      by-bool (ltb k j) (λ e. rw (e, insert-among i k js) (swap (eqb j i) (eqb k i) (isAmong D i js))) (λ e. rw e)
-    where
-      swap : (a b c : Bool) → (a || (b || c)) ≡ (b || (a || c))
-      swap true true c = refl
-      swap true false c = refl
-      swap false b c = refl
-
-  pub falling-among : (i : ℕ) (ks : List ℕ) → isAmong D i (falling ks) ≡ isAmong D i ks
-  unfolding falling among
-  falling-among i [] = refl
-  falling-among i (k ∷ ks) = insert-among i k (falling ks) ∙ rw (falling-among i ks)
-
   falling-next : (k : ℕ) (ks : List ℕ) → Next D k ks → Next D k (falling ks)
   falling-next k ks n = record {
     agreed = n .agreed;
@@ -41,14 +41,14 @@ module _ {Content Table : Type 0} (D : Domain Content Table) where
   }
 
   -- each number of a lawful list is agreed, and what it waits for is in the list
-  pub lawful-agreed : (ks : List ℕ) → Lawful D ks → (k : ℕ) → isAmong D k ks ≡ true → Agreed D k
+  pub lawful-agreed : (ks : List ℕ) → Lawful D ks → (k : ℕ) → isAmong k ks ≡ true → Agreed D k
   unfolding among
   lawful-agreed [] h k m = tf m refl
   lawful-agreed (j ∷ ks) h k m =
       by-or (eqb j k) _ m (λ e. rw (← eqb-true j k e) (h .0 .agreed)) (lawful-agreed ks (h .1) k)
 
-  pub lawful-closed : (ks : List ℕ) → Lawful D ks → (k : ℕ) → isAmong D k ks ≡ true → (i : ℕ) → D .waits k i ≡ true
-      → isAmong D i ks ≡ true
+  pub lawful-closed : (ks : List ℕ) → Lawful D ks → (k : ℕ) → isAmong k ks ≡ true → (i : ℕ) → D .waits k i ≡ true
+      → isAmong i ks ≡ true
   unfolding among
   lawful-closed [] h k m i e = tf m refl
   lawful-closed (j ∷ ks) h k m i e =
@@ -90,7 +90,7 @@ module _ {Content Table : Type 0} (D : Domain Content Table) where
         insert-lawful k (falling ks) (falling-lawful ks (h .1)) (falling-next k ks (h .0))
 
     -- a number that is next is on another switch than each higher one in the list
-    apart : (k : ℕ) (js : List ℕ) → Lawful D js → Next D k js → (j : ℕ) → isAmong D j js ≡ true → k < j
+    apart : (k : ℕ) (js : List ℕ) → Lawful D js → Next D k js → (j : ℕ) → isAmong j js ≡ true → k < j
         → D .switch j ≡ D .switch k → ⊥
     apart k js h n j m l e =
         tf (lawful-closed js h j m k (L .in-turn j k (lawful-agreed js h j m) (n .agreed .0) l (sym e))) (n .new)

@@ -6,7 +6,7 @@ use mathlib.Core.List.{List, [], _∷_, map, List·Memᴰ}
 use Prim.Native.Nat.{ℕ, _+_, _≤_, _<_}
 use lib.Dec.{ltb, eqb}
 use Rattle.answer.specs.Ask.{pick}
-use Rattle.lists.specs.Kinds.{among}
+use Rattle.lists.specs.Kinds.{isAmong}
 use Rattle.protocol.specs.Families.{countBelow}
 use Rattle.protocol.specs.Runs.{run, Sometime}
 use Rattle.protocol.specs.Ends.{Domain, Switch}
@@ -25,10 +25,6 @@ module _ {Content Table : Type 0} (D : Domain Content Table) where
     pub in-turn : (k j : ℕ) → Agreed D k → 0 < j → j < k → D .switch j ≡ D .switch k → D .waits k j ≡ true
     pub same-sound : (x y : Content) → D .same x y ≡ true → x ≡ y
     pub same-mine : (x : Content) → D .same x x ≡ true
-
-  -- whether a number is among some
-  abbrev pub isAmong : ℕ → List ℕ → Bool
-  isAmong k ks = among eqb k ks
 
   -- a number that may be made once those of a list are: agreed, new, and everything that it waits for is made
   pub record Next (k : ℕ) (ks : List ℕ) : Type 0 where

@@ -1,15 +1,19 @@
 -- A run within the premises goes on within them: with what was written, however late and however often, with whatever
 -- names a controller that strays, and with calls that bring no decision. Assumes nothing.
 use mathlib.Core.Path.{_≡_, sym, subst}
-use mathlib.Core.Bool.{true}
+use mathlib.Core.Bool.{Bool, true, not, _&&_}
 use mathlib.Core.List.{List, [], _∷_, _++_, append-nil}
 use Prim.Native.Nat.{ℕ, _<_}
+use lib.Dec.{ltb}
+use borrow.Author.Tests.{ltb-true, not-true}
+use Rattle.answer.proofs.Bools.{and-parts}
+use Rattle.lists.specs.Arrays.{everyTail, every}
 use Rattle.message.specs.Reading.{decode}
 use Rattle.message.specs.declared.End.the-variants as ends
 use Rattle.switch.specs.Calls.{receives}
 use Rattle.controller.specs.Calls as controller-calls
 use Rattle.controller.specs.Calls.{writesShare}
-use Rattle.protocol.specs.Runs.{run}
+use Rattle.protocol.specs.Runs.{run, Every}
 use Rattle.protocol.proofs.Runs.{run-append, every-join}
 use Rattle.domain.specs.Settings.{Setting, Valid, Keeps}
 use Rattle.domain.specs.Calls.{Call, atSwitch, atController, Run, start, step}
@@ -26,6 +30,24 @@ NoDecision (atSwitch s x) = Unit {0}
 NoDecision (atController c (controller-calls.receives bytes)) = Unit {0}
 NoDecision (atController c (controller-calls.decides s serial cause)) = ⊥
 NoDecision (atController c (writesShare s frame at)) = Unit {0}
+
+-- where a call is does not depend on what came before, and can be tested
+module _ (S : Setting) where
+  abbrev pub inRun : Call → Bool
+  inRun (atSwitch s x) = ltb s 16
+  inRun (atController c x) = ltb c (S .n) && not (S .strays c)
+
+  in-run : (r : Run) (x : Call) → inRun x ≡ true → InRun S r x
+  in-run r (atSwitch s x) h = ltb-true _ _ h
+  in-run r (atController c x) h =
+      let both = and-parts (ltb c (S .n)) (not (S .strays c)) h in (ltb-true _ _ (both .0), not-true _ (both .1))
+
+  pub all-in-run : (r : Run) (xs : List Call) → every inRun xs ≡ true → Every (step S) (InRun S) r xs
+  unfolding everyTail
+  all-in-run r [] h = tt
+  all-in-run r (x ∷ xs) h =
+      let both = and-parts (inRun x) (every inRun xs) h in
+      (in-run r x (both .0), all-in-run (step S r x) xs (both .1))
 
 module _ (S : Setting) (v : Valid S) where
   -- a list of calls goes on with another, and a run within the premises with calls within them

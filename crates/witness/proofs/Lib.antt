@@ -3,3 +3,5 @@ pub mod Deliveries
 pub mod Wrote
 pub mod Extended
 pub mod Played
+pub mod EveningEnds
+pub mod Evening

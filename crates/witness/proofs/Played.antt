@@ -10,6 +10,7 @@ use lib.ListN.{take, replicate}
 use lib.Seq.{take-all}
 use borrow.Author.Tests.{eqb-true, eq-eqb, not-true}
 use Rattle.answer.proofs.Bools.{by-eq, and-parts, pick-keeps}
+use Rattle.lists.specs.Kinds.{isAmong}
 use Rattle.message.specs.Layout.{shareLength, acknowledgementLength}
 use Rattle.switch.specs.Calls.{receives, writesAcknowledgement}
 use Rattle.switch.proofs.Sent.{acknowledgement-sent}
@@ -23,7 +24,6 @@ use Rattle.domain.specs.Calls.{Call, atSwitch, atController, Done, Run, start, 
 use Rattle.domain.specs.Premises.{SwitchWrote, ControllerWrote, taken, InRun, Unforged, Premises}
 use Rattle.domain.specs.Premises as premises
 use Rattle.domain.specs.Agreement.{agreedChanges}
-use Rattle.domain.specs.Ideals.{isAmong}
 use Rattle.domain.specs.Rounds.{acknowledgementNow, shareNow, Delivered, Round}
 use Rattle.domain.specs.Claim.{answered, unmade}
 use Rattle.domain.proofs.AtController.{share-there}
@@ -136,14 +136,10 @@ module _ (S : Setting) (v : Valid S) where
       (λ e. nothing-fair r b)
 
   first-fair : (r : Run) → Reached S r → Begun S r → Fair S v r (firstHalf S r)
-  first-fair =
-      each-fair 16 (λ u s. forEach S (S .n) (tells S s) u)
-      (λ u U b s l. each-fair (S .n) (tells S s) (tells-fair s l) u U b)
+  first-fair = each-fair _ _ (λ u U b s l. each-fair (S .n) (tells S s) (tells-fair s (omega arith)) u U b)
 
   second-fair : (r : Run) → Reached S r → Begun S r → Fair S v r (secondHalf S r)
-  second-fair =
-      each-fair 16 (λ u s. forEach S (S .n) (shares S s) u)
-      (λ u U b s l. each-fair (S .n) (shares S s) (shares-fair s l) u U b)
+  second-fair = each-fair _ _ (λ u U b s l. each-fair (S .n) (shares S s) (shares-fair s (omega arith)) u U b)
 
   round-fair : (r : Run) → Reached S r → Begun S r → Fair S v r (round S r)
   round-fair r R b =
@@ -171,13 +167,15 @@ module _ (S : Setting) (v : Valid S) where
     told : (r : Run) → Delivered S (λ u. acknowledgementNow S u s c)
         (λ bytes. atController c (controller.receives bytes)) r (firstHalf S r)
     told r =
-        rw append-nil at (each-moment Told 16 (λ u i. forEach S (S .n) (tells S i) u) s l
+        subst (Sometime (step S) Told r) (append-nil (firstHalf S r))
+        (each-moment Told _ _ s l
         (each-moment Told (S .n) (tells S s) c (keeps .0)
         (λ u rest. rw (keeps .1) (now (step S) Told u _ (λ e. List·Memᴰ·tail (List·Memᴰ·head refl))))) r [])
 
     sent : (r : Run) → Delivered S (λ u. shareNow S u c s) (λ bytes. atSwitch s (receives bytes)) r (secondHalf S r)
     sent r =
-        rw append-nil at (each-moment Sent 16 (λ u i. forEach S (S .n) (shares S i) u) s l
+        subst (Sometime (step S) Sent r) (append-nil (secondHalf S r))
+        (each-moment Sent _ _ s l
         (each-moment Sent (S .n) (shares S s) c (keeps .0)
         (λ u rest. now (step S) Sent u (shares S s u c ++ rest) (λ e.
         rw (keeps .1, eq-eqb (shareNow S u c s .0) 0 e) (List·Memᴰ·tail (List·Memᴰ·head refl))))) r [])

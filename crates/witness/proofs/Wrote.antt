@@ -3,8 +3,12 @@
 use mathlib.Core.Path.{_≡_, refl, sym, ap, _∙_}
 use mathlib.Core.List.{List, [], _∷_, List·Memᴰ·cases-cons, List·Memᴰ·not-nil}
 use mathlib.Core.Logic.{⊎-elim}
-use Prim.Native.Nat.{ℕ, _<_}
+use Prim.Native.Nat.{ℕ, suc, _+_, _<_}
+use native.Mathlib.Omega.{arith}
+use lib.ListN.{length, drop}
+use lib.Seq.{drop-drop}
 use Rattle.flow.specs.declared.Rule.{Rule}
+use Rattle.lists.specs.Bytes.{part}
 use Rattle.message.specs.Keys.{keyAt}
 use Rattle.message.specs.Layout.{eventLength, shareLength, acknowledgementLength}
 use Rattle.message.specs.Reading.{decode}
@@ -21,16 +25,17 @@ use Rattle.controller.specs.Calls as controller-calls
 use Rattle.controller.specs.Calls.{writesShare}
 use Rattle.controller.specs.Writing.{shareOf, shareWritten}
 use Rattle.controller.proofs.Sent.{allowed, share-bytes}
+use Rattle.protocol.specs.Runs.{run}
 use Rattle.domain.specs.Settings.{Setting, Keeps, switchKeys, controllerKeys}
 use Rattle.domain.specs.Calls.{Call, atSwitch, atController, Done, Run, start, step}
-use Rattle.domain.specs.Calls.{part, switchWrites, controllerWrites}
+use Rattle.domain.specs.Calls.{switchWrites, controllerWrites}
 use Rattle.domain.specs.Premises.{SwitchWrote, ControllerWrote, FromSwitch, FromController}
 use Rattle.domain.specs.Premises as premises
 use Rattle.domain.proofs.Reached.{Reached}
 
 -- the bytes of each kind of message
 module _ (key : List ℕ) where
-  share-named : (c s k : ℕ) (rule : Rule) → FromController c s (decode ends.Switch (encode key (Share c s k rule)))
+  pub share-named : (c s k : ℕ) (rule : Rule) → FromController c s (decode ends.Switch (encode key (Share c s k rule)))
   share-named c s k rule = rw (decode-share _ (encode-length key (Share c s k rule)) refl) premises.share
 
   event-named : (s c serial cause : ℕ)
@@ -63,6 +68,16 @@ module _ (S : Setting) where
   latest-call : (r : Run) (x : Call) → latest r x .call ≡ x
   latest-call r (atSwitch s x) = refl
   latest-call r (atController c x) = refl
+
+  -- a call adds one entry
+  pub log-before : (r : Run) (xs : List Call) → drop (length xs) (run (step S) r xs .log) ≡ r .log
+  log-before r [] = refl
+  log-before r (x ∷ xs) =
+      let log = run (step S) (step S r x) xs .log in
+      let more : suc (length xs) ≡ length xs + 1 = omega arith in
+      ap (λ (n : ℕ). drop n log) more
+      ∙ sym (drop-drop 1 (length xs) log)
+      ∙ ap (drop 1) (log-before (step S r x) xs ∙ logged r x)
 
   -- what was written so far names its sender and receiver
   pub record Named (log : List Done) : Type 0 where
