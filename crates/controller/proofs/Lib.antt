@@ -1,4 +1,4 @@
--- Laws of the controller end. Places, Scanning, Shares and Steps are for this crate's own functions.
+-- Laws of the controller end. Places, Planned, Scanning, Shares and Steps are for this crate's own functions.
 pub mod Within
 pub mod Waiting
 pub mod Staying
@@ -10,6 +10,7 @@ pub mod Kept
 pub mod Effects
 pub mod Sent
 mod Places
+mod Planned
 mod Scanning
 mod Shares
 mod Steps

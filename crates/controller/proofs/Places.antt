@@ -1,6 +1,5 @@
 -- Undone changes held and numbers given, one more at the end: what a turn of each loop comes to. Also, the places of a
--- controller within its limits are those of its undone changes, and where a plan's changes stand in the store.
--- Assumes nothing.
+-- controller within its limits are those of its undone changes. Assumes nothing.
 use mathlib.Core.Path.{_≡_, refl, sym, ap, _∙_}
 use mathlib.Core.Bool.{Bool, true, false, and-false}
 use mathlib.Core.List.{List, [], _∷_, _++_, append-nil, append-assoc}
@@ -13,17 +12,10 @@ use Rattle.answer.specs.Ask.{pick}
 use Rattle.answer.proofs.Bools.{by-bool, tf}
 use Rattle.lists.proofs.Padding.{pad-snoc, as-padded}
 use Rattle.lists.proofs.Passing.{passing-none, passing-snoc, passing-few}
-use Rattle.lists.proofs.Stores.{take-next, part-within}
+use Rattle.lists.proofs.Stores.{take-next}
 use Rattle.flow.specs.Rules.{emptyRule}
 use Rattle.flow.proofs.Actions.{rule-sound}
-use Rattle.playbook.specs.Books as books
-use Rattle.playbook.specs.Plans.{planOf, changesFor}
-use Rattle.playbook.specs.Storing.{storedOk}
 use Rattle.playbook.specs.declared.Change.{Change}
-use Rattle.playbook.specs.declared.Plan.{Plan}
-use Rattle.playbook.specs.declared.Playbook.{Playbook}
-use Rattle.playbook.proofs.Kept.{stored-parts}
-use Rattle.playbook.proofs.Listed.{stored-plan}
 use Rattle.controller.specs.Changes.{emptyUndone, undoneEmpty, meaning, heldOf, isUndone, stillUndone}
 use Rattle.controller.specs.Changes.{numbered, numberedFrom, withChange}
 use Rattle.controller.specs.declared.Controller.{Controller}
@@ -102,20 +94,3 @@ pub held-sound : (c : Controller) → Within c → length (c .undone .changes) �
 held-sound c w long =
     let padded = as-padded undoneEmpty emptyUndone only-empty _ (c .undone .changes) long (w .count) (w .unused) in
     λ i. record { changes = padded .0 i; count = padded .1 i }
-
--- the plan of a trigger in a stored playbook, and its changes where they stand
-pub record Listed (p : Playbook) (t : books.Trigger) (q : Plan) : Type 0 where
-  pub inside : q .first + q .count ≤ 512
-  pub few : q .count ≤ 32
-  pub changes : changesFor p t ≡ take (q .count) (drop (q .first) (p .changes))
-
-pub plan-listed : (p : Playbook) (t : books.Trigger) → storedOk p ≡ true → {q : Plan}
-    → q ≡ planOf t (books.meaning p .plans) → Listed p t q
-plan-listed p t h e =
-    let plan = stored-plan p t h in
-    let s = stored-parts p h in
-    rw e (record {
-      inside = omega arith;
-      few = plan .few;
-      changes = part-within _ _ (p .listed) (p .changes) (plan .inside);
-    })

@@ -1,13 +1,21 @@
-// The changes that a decision gives numbers, held with the undone ones.
+// A decision that agreement brought: its questions, and the changes that it gives numbers, held with the undone ones.
 ghost use mathlib.Core.Path.{_≡_};
+ghost use mathlib.Core.Bool.{true};
 ghost use mathlib.Core.List.{_++_};
-ghost use Prim.Native.Nat.{_+_, _≤_};
+ghost use Prim.Native.Nat.{_+_, _≤_, _<_};
 ghost use lib.ListN.{take, drop};
+ghost use Rattle.answer.specs.Ask.{reply};
 ghost use Rattle.controller.specs.Changes.{meaning, heldOf, stillUndone, numbered, numberedFrom};
+ghost use Rattle.controller.specs.States.{unchanged, controllerOk};
+ghost use Rattle.controller.specs.Decisions.{decisionQuestions, decided, decidedBy};
+use crate::Controller;
 use crate::Held;
+use crate::Offer;
+use crate::Reply;
 use crate::Undone;
 use crate::changes::hold;
 use crate::limits;
+use crate::states::controller_ok;
 use playbook::Change;
 
 // A plan's change with a number, of the decision with a first number.
@@ -52,4 +60,58 @@ pub(crate) fn with_plan(
         i += 1;
     }
     out
+}
+
+// An answer with a state, and nothing offered.
+fn replied(state: Controller, k: u8) -> Reply
+    ensures { λ r. ⌜ r ≡ unchanged state k ⌝ }
+{
+    Reply {
+        answer: k,
+        offer: Offer::Nothing,
+        state: state,
+    }
+}
+
+// Question 23, which counts the whole plan, and 24, which asks the state afterwards; then the decision is taken.
+fn take_decision(c: Controller, switch: u8, serial: u32, cause: u8) -> Reply
+    requires { ⌜ (controllerOk c ≡ true) × (switch < 16) ⌝ }
+    ensures { λ r. ⌜ r
+        ≡ reply (drop 3 (decisionQuestions c switch serial cause)) (unchanged c)
+        (unchanged (decided c switch serial cause) 0) ⌝ }
+{
+    let p = c.playbook;
+    let plan = playbook::plan_of(p, switch, cause);
+    let last = c.last as u64 + plan.count as u64;
+    if limits::NUMBERS < last {
+        return replied(c, answer::NUMBERS_EXHAUSTED);
+    }
+    let undone = c.undone;
+    let acknowledged = c.acknowledged;
+    let listed = p.changes;
+    let held = with_plan(undone, acknowledged, listed, plan.first, plan.count, c.last);
+    let mut state = c;
+    state.serials[switch as usize] = serial;
+    state.last = last as u32;
+    state.undone = held;
+    if limits::UNDONE < held.count {
+        return replied(c, answer::TOO_MANY_UNDONE);
+    }
+    replied(state, answer::DONE)
+}
+
+// Questions 20, 12 and 22, then those of the plan. The caller brings a decision that 24 refuses again before any other.
+pub fn decide(c: Controller, switch: u8, serial: u32, cause: u8) -> Reply
+    ensures { λ r. ⌜ r ≡ decidedBy c switch serial cause ⌝ }
+{
+    if !controller_ok(c) {
+        return replied(c, answer::LIMITS_BROKEN);
+    }
+    if limits::SWITCHES <= switch {
+        return replied(c, answer::UNKNOWN_ID);
+    }
+    if serial <= c.serials[switch as usize] {
+        return replied(c, answer::SERIAL_DECIDED);
+    }
+    take_decision(c, switch, serial, cause)
 }

@@ -1,5 +1,5 @@
-// The controller end (document 01, "Controller end"): its state by value, events offered and acknowledgements taken,
-// and the share of a switch's ready change written. Every call takes every state, byte string and number.
+// The controller end (document 01, "Controller end"): its state by value, events offered, acknowledgements and decisions
+// taken, and the share of a switch's ready change written. Every call takes every state, byte string and number.
 use flow::Rule;
 use playbook::Playbook;
 
@@ -12,6 +12,7 @@ mod receiving;
 mod states;
 mod writing;
 
+pub use decisions::decide;
 pub use receiving::receive;
 pub use states::setup;
 pub use writing::write_share;

@@ -9,3 +9,5 @@ pub(crate) const PLACES: usize = 16;
 pub(crate) const UNDONE: usize = 64;
 // Changes of a playbook.
 pub(crate) const LISTED: usize = 512;
+// The largest number of a change.
+pub(crate) const NUMBERS: u64 = 4294967295;
