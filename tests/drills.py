@@ -149,17 +149,17 @@ class Drill(Calls):
     """Calls at one switch."""
 
     def __init__(self, long):
-        super().__init__(long)
-        self.switch, self.keys = Switch(), b""
+        super().__init__(long, Switch())
+        self.keys = b""
 
     def replied(self, word, answer, more=""):
-        self.lines.append("%s %d%s%s" % (word, answer, self.switch.show(), more))
+        self.lines.append("%s %d%s%s" % (word, answer, self.state.show(), more))
         return answer
 
     def setup(self, id, n):
         self.case(b"S", bytes([id, n]))
         good = id <= 15 and 1 <= n <= 16
-        self.switch = Switch(id, n) if good else Switch()
+        self.state = Switch(id, n) if good else Switch()
         self.replied("setup", 0 if good else 20)
 
     def store(self, id, length):
@@ -172,10 +172,10 @@ class Drill(Calls):
 
     def receive(self, s):
         self.case(b"M", s)
-        return self.replied("received", self.switch.receive(self.keys, s))
+        return self.replied("received", self.state.receive(self.keys, s))
 
     def share(self, controller, number, rule):
-        return self.receive(share(controller, self.switch.id, number, rule))
+        return self.receive(share(controller, self.state.id, number, rule))
 
     def shares(self, *shares):
         for controller, number, rule in shares:
@@ -183,16 +183,16 @@ class Drill(Calls):
 
     def raise_event(self, cause):
         self.case(b"R", bytes([cause]))
-        return self.replied("raised", self.switch.raise_event(cause))
+        return self.replied("raised", self.state.raise_event(cause))
 
     def write(self, event, length, controller, offset):
         self.case(b"E" if event else b"A", struct.pack(">BBQ", length, controller, offset))
-        answer, frame = self.switch.write(self.keys, event, length, controller, offset)
+        answer, frame = self.state.write(self.keys, event, length, controller, offset)
         return self.replied("written", answer, " frame " + frame.hex())
 
     def look_up(self, address):
         self.case(b"L", struct.pack(">I", address))
-        self.lines.append("looked up " + self.switch.look_up(address))
+        self.lines.append("looked up " + self.state.look_up(address))
 
     def quorum(self, n):
         self.case(b"Q", bytes([n]))
@@ -200,32 +200,20 @@ class Drill(Calls):
 
     # What a state is made to be, without a call.
 
-    def set_id(self, id):
-        self.case(b"X", bytes([0, id]))
-        self.switch.id = id
-
-    def set_n(self, n):
-        self.case(b"X", bytes([1, n]))
-        self.switch.n = n
-
-    def set_last(self, last):
-        self.case(b"X", struct.pack(">BI", 2, last))
-        self.switch.last = last
-
     def set_raised(self, serial, cause):
         self.case(b"X", struct.pack(">BIB", 3, serial, cause))
-        self.switch.serial, self.switch.cause = serial, cause
+        self.state.serial, self.state.cause = serial, cause
 
     def poke_slot(self, i, number, prefix, length, kind, port):
         self.case(b"X", struct.pack(">BBIIBBH", 4, i, number, prefix, length, kind, port))
 
     def set_slot(self, i, number, rule):
         self.poke_slot(i, number, rule[0], rule[1], 1 if rule[2] else 0, rule[2])
-        self.switch.slots[i] = (number, rule)
+        self.state.slots[i] = (number, rule)
 
     def empty_slot(self, i):
         self.poke_slot(i, 0, 0, 0, 0, 0)
-        self.switch.slots[i] = None
+        self.state.slots[i] = None
 
     def poke_entry(self, i, entry):
         self.case(b"X", struct.pack(">BBIBH", 5, i, *entry))
@@ -236,10 +224,10 @@ class Drill(Calls):
     def set_entries(self, entries):
         for i, e in enumerate(entries):
             self.poke_entry(i, e)
-        for i in range(len(entries), len(self.switch.entries)):
+        for i in range(len(entries), len(self.state.entries)):
             self.poke_entry(i, (0, 0, 0))
         self.poke_count(len(entries))
-        self.switch.entries = list(entries)
+        self.state.entries = list(entries)
 
 
 A, B, C = (0x0A000000, 8, 3), (0x0A010000, 16, 4), (0xC0A80000, 16, 7)
@@ -414,37 +402,37 @@ def limits(d):
     def odd_slot(i, number, prefix, length, kind, port):
         def damage():
             d.poke_slot(i, number, prefix, length, kind, port)
-            d.switch.odd_slots[i] = "%d %d %d %s" % (number, prefix, length, "set %d" % port if kind else "remove")
+            d.state.odd_slots[i] = "%d %d %d %s" % (number, prefix, length, "set %d" % port if kind else "remove")
 
         def mend():
-            slot = d.switch.slots[i]
+            slot = d.state.slots[i]
             if slot:
                 d.poke_slot(i, slot[0], slot[1][0], slot[1][1], 1 if slot[1][2] else 0, slot[1][2])
             else:
                 d.poke_slot(i, 0, 0, 0, 0, 0)
-            del d.switch.odd_slots[i]
+            del d.state.odd_slots[i]
 
         return damage, mend
 
     def odd_entry(i, entry):
         def damage():
             d.poke_entry(i, entry)
-            d.switch.odd_entries[i] = entry
+            d.state.odd_entries[i] = entry
 
         def mend():
-            d.poke_entry(i, d.switch.entries[i] if i < len(d.switch.entries) else (0, 0, 0))
-            del d.switch.odd_entries[i]
+            d.poke_entry(i, d.state.entries[i] if i < len(d.state.entries) else (0, 0, 0))
+            del d.state.odd_entries[i]
 
         return damage, mend
 
     def odd_count(count):
         def damage():
             d.poke_count(count)
-            d.switch.count = count
+            d.state.count = count
 
         def mend():
-            d.poke_count(len(d.switch.entries))
-            d.switch.count = None
+            d.poke_count(len(d.state.entries))
+            d.state.count = None
 
         return damage, mend
 

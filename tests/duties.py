@@ -204,24 +204,34 @@ class Controller:
         return 0, frame
 
     def decide(self, switch, serial, cause):
-        """A decision taken: the program has no such call, so its state is made to be this."""
-        changes = self.book.plan(switch, cause)
-        first = self.last + 1
-        added = [(first + i, first, flow, on, rule) for i, (flow, on, rule) in enumerate(changes)]
+        if not self.good():
+            return 20
+        if switch > 15:
+            return 12
+        if serial <= self.serials[switch]:
+            return 22
+        changes, first = self.book.plan(switch, cause), self.last + 1
+        if self.last + len(changes) > LARGEST:
+            return 23
+        given = [(first + i, first, flow, on, rule) for i, (flow, on, rule) in enumerate(changes)]
+        undone = self.undone() + [u for u in given if u[0] > self.acknowledged[u[3]]]
+        if len(undone) > 64:
+            return 24
         self.serials[switch] = serial
         self.last += len(changes)
-        self.hold(self.undone() + [u for u in added if u[0] > self.acknowledged[u[3]]])
+        self.hold(undone)
+        return 0
 
 
 class Duty(Calls):
     """Calls at one controller."""
 
     def __init__(self, long):
-        super().__init__(long)
-        self.controller, self.book, self.keys = Controller(), Book(), b""
+        super().__init__(long, Controller())
+        self.book, self.keys = Book(), b""
 
     def replied(self, word, answer, offered="", more=""):
-        self.lines.append("%s %d%s%s%s" % (word, answer, offered, self.controller.show(), more))
+        self.lines.append("%s %d%s%s%s" % (word, answer, offered, self.state.show(), more))
         return answer
 
     def read(self, book):
@@ -232,8 +242,8 @@ class Duty(Calls):
     def setup(self, id, n):
         self.case(b"S", bytes([id, n]))
         good = 1 <= n <= 16 and id < n
-        self.controller = Controller(id, n, self.book.copy()) if good else Controller()
-        self.replied("setup", 0 if good else 20, more=self.controller.book.show())
+        self.state = Controller(id, n, self.book.copy()) if good else Controller()
+        self.replied("setup", 0 if good else 20, more=self.state.book.show())
 
     def store(self, id, length):
         self.case(b"K", struct.pack(">BH", id, length))
@@ -245,72 +255,53 @@ class Duty(Calls):
 
     def receive(self, s):
         self.case(b"M", s)
-        answer, offered = self.controller.receive(self.keys, s)
+        answer, offered = self.state.receive(self.keys, s)
         return self.replied("received", answer, offered)
 
     def acknowledge(self, switch, number):
-        return self.receive(acknowledgement(switch, self.controller.id, number))
+        return self.receive(acknowledgement(switch, self.state.id, number))
 
     def event(self, switch, serial, cause):
-        return self.receive(event(switch, self.controller.id, serial, cause))
+        return self.receive(event(switch, self.state.id, serial, cause))
+
+    def decide(self, switch, serial, cause):
+        self.case(b"D", struct.pack(">BIB", switch, serial, cause))
+        return self.replied("decided", self.state.decide(switch, serial, cause))
 
     def write(self, switch, length=48, offset=0):
         self.case(b"W", struct.pack(">BBQ", length, switch, offset))
-        answer, frame = self.controller.write(self.keys, length, switch, offset)
+        answer, frame = self.state.write(self.keys, length, switch, offset)
         return self.replied("written", answer, more=" frame " + frame.hex())
 
     # What a state is made to be, without a call.
 
-    def set_id(self, id):
-        self.case(b"X", bytes([0, id]))
-        self.controller.id = id
-
-    def set_n(self, n):
-        self.case(b"X", bytes([1, n]))
-        self.controller.n = n
-
-    def set_last(self, last):
-        self.case(b"X", struct.pack(">BI", 2, last))
-        self.controller.last = last
-
     def set_acknowledged(self, switch, number):
         self.case(b"X", struct.pack(">BBI", 3, switch, number))
-        self.controller.acknowledged[switch] = number
+        self.state.acknowledged[switch] = number
 
     def set_serial(self, switch, serial):
         self.case(b"X", struct.pack(">BBI", 4, switch, serial))
-        self.controller.serials[switch] = serial
+        self.state.serials[switch] = serial
 
     def set_place(self, i, u):
         self.case(b"X", struct.pack(">BBIIBB", 5, i, *u[:4]) + rule_bytes(u[4]))
-        self.controller.places[i] = u
+        self.state.places[i] = u
 
     def set_count(self, count):
         self.case(b"X", bytes([6, count]))
-        self.controller.count = count
+        self.state.count = count
 
     def set_counts(self, planned, listed):
         self.case(b"X", struct.pack(">BBH", 7, planned, listed))
-        self.controller.book.planned, self.controller.book.listed = planned, listed
+        self.state.book.planned, self.state.book.listed = planned, listed
 
     def set_plan(self, i, plan):
         self.case(b"X", struct.pack(">BBBBHB", 8, i, *plan))
-        self.controller.book.plans[i] = plan
+        self.state.book.plans[i] = plan
 
     def set_change(self, i, change):
         self.case(b"X", struct.pack(">BHBB", 9, i, *change[:2]) + rule_bytes(change[2]))
-        self.controller.book.changes[i] = change
-
-    def decide(self, switch, serial, cause):
-        c = self.controller
-        before = list(c.places)
-        c.decide(switch, serial, cause)
-        self.set_serial(switch, serial)
-        self.set_last(c.last)
-        for i in range(64):
-            if c.places[i] != before[i]:
-                self.set_place(i, c.places[i])
-        self.set_count(c.count)
+        self.state.book.changes[i] = change
 
 
 A, B, C = (0x0A000000, 8, 3), (0x0A010000, 16, 4), (0xC0A80000, 16, 0)
@@ -335,7 +326,7 @@ def questions(d):
     d.set_serial(5, 9)
     good = event(5, 3, 10, 1)
     done = acknowledgement(5, 3, 10)
-    for length in d.some((0, 22, 25), (1, 7, 8, 16, 21, 26, 30, 31, 255)):
+    for length in d.some((22, 25), (0, 1, 7, 8, 16, 21, 26, 30, 31, 255)):
         d.receive((good * 11)[:length])
     d.receive(b"\x03" + good[1:])
     d.receive(b"\x01" + done[1:])
@@ -364,7 +355,7 @@ def events(d):
     d.start(3, 4)
     d.event(5, 1, 1)
     d.event(5, 1, 1)
-    for switch, serial, cause in d.some(((15, LARGEST, 255),), ((5, LARGEST, 0), (0, 7, 1))):
+    for switch, serial, cause in d.some((), ((15, LARGEST, 255), (5, LARGEST, 0), (0, 7, 1))):
         d.event(switch, serial, cause)
     d.set_serial(5, LARGEST)
     for switch, serial in d.some(((5, LARGEST),), ((5, 1), (0, 1))):
@@ -378,14 +369,82 @@ def acknowledgements(d):
     d.decide(0, 1, 255)
     for switch, number in d.some((), ((2, 0), (9, 4), (9, 0))):
         d.acknowledge(switch, number)
-    for switch, number in ((2, 3), (2, 3), (2, 1), (9, 5), (5, LARGEST), (2, 2)):
+    for switch, number in d.some(((2, 3), (2, 3), (2, 1), (9, 5), (5, LARGEST)), ((2, 2),)):
         d.acknowledge(switch, number)
     for switch, number in d.some((), ((5, LARGEST), (5, LARGEST - 1), (5, 0), (2, 6), (7, 100))):
         d.acknowledge(switch, number)
-    # what is decided after it is done already, and is not held
-    d.decide(5, 2, 1)
-    for switch, number in d.some(((2, 8),), ((7, 99), (7, 100), (7, 101))):
-        d.acknowledge(switch, number)
+    if d.long:
+        # what is decided after it is done already, and is not held
+        d.decide(5, 2, 1)
+        for switch, number in ((2, 8), (7, 99), (7, 100), (7, 101)):
+            d.acknowledge(switch, number)
+
+
+def decisions(d):
+    """20, 12 and 22 in order; an empty plan and none; what is done already takes a number and is not held."""
+
+    def decide(few, many=()):
+        for switch, serial, cause in d.some(few, many):
+            d.decide(switch, serial, cause)
+
+    d.start(3, 4)
+    d.set_n(3)
+    d.decide(16, 0, 1)
+    d.set_n(4)
+    decide(((16, 0, 1), (5, 0, 1), (5, 7, 2), (5, 7, 1), (5, 6, 1), (9, 1, 1), (5, 8, 1)),
+           ((255, 9, 1), (15, LARGEST, 255), (15, LARGEST, 0), (5, 8, 2)))
+    # a controller that lags is told of higher numbers first; the first number is still that of the first listed change
+    d.acknowledge(2, 8)
+    d.decide(5, 9, 1)
+    if d.long:
+        for switch, number in ((5, 2), (7, 4), (9, 5)):
+            d.acknowledge(switch, number)
+            for ready in (2, 5, 7, 9):
+                d.write(ready)
+        decide(((0, 1, 255), (5, LARGEST, 1), (5, LARGEST, 2)))
+    # 23 counts the whole plan, done changes too; the largest number is given, and after it none
+    d.start(3, 4)
+    d.set_acknowledged(2, LARGEST)
+    d.set_acknowledged(5, LARGEST)
+    d.set_last(LARGEST - 1)
+    decide(((0, 1, 255),))
+    d.set_last(LARGEST - 2)
+    decide(((0, 1, 255), (0, 2, 255), (5, 1, 2), (9, 1, 1)), ((0, 1, 255), (5, 2, 1)))
+    d.set_acknowledged(2, 0)
+    d.set_acknowledged(5, 0)
+    d.set_last(LARGEST - 4)
+    decide(((5, 2, 1),))
+    d.set_last(LARGEST - 5)
+    decide(((5, 2, 1),), ((5, 3, 1), (5, 3, 2), (5, 3, 0)))
+
+
+def room(d):
+    """24 counts what would be held; a decision that it refused is taken when it is brought again and there is room."""
+    d.read(Book([((0, 0), [(i % 3, i % 4, A) for i in range(32)]),
+                 ((1, 0), [(0, 8, B)]),
+                 ((3, 0), [(0, 8, A), (0, 15, B)]),
+                 ((4, 0), [(0, 9, A), (0, 8, C)])]))
+    d.start(0, 1)
+    d.decide(1, 1, 0)
+    d.decide(0, 1, 0)
+    # 33 and 32 do not fit, 32 and 32 do
+    d.decide(0, 2, 0)
+    d.acknowledge(8, LARGEST)
+    d.decide(0, 2, 0)
+    # with 64 undone: no plan, and a change that is done already; one that is not does not fit
+    for switch, serial in d.some(((2, 1), (1, 2)), ((3, 1), (0, 3), (1, 2), (1, 1))):
+        d.decide(switch, serial, 0)
+    # one flow byte in two decisions binds inside each: 9 does not wait for the other decision, 15 waits in its own
+    d.start(0, 1)
+    d.decide(3, 1, 0)
+    d.decide(4, 1, 0)
+    for switch in d.some((9, 15), (8,)):
+        d.write(switch)
+    if d.long:
+        for on, number in ((8, 1), (9, 3), (15, 2)):
+            d.acknowledge(on, number)
+            for switch in (8, 9, 15):
+                d.write(switch)
 
 
 def readiness(d):
@@ -396,28 +455,24 @@ def readiness(d):
 
     d.start(3, 4)
     d.decide(5, 1, 1)
-    writes((5, 2, 2, 9), (7, 0, 15))
+    writes((5, 2, 2), (9, 7, 0, 15))
     # the other flow on switch 2 waits for the first change there, and switch 7 for it
     d.acknowledge(2, 1)
     writes((2, 5), (7,))
-    d.acknowledge(5, 2)
-    writes((7,), (5,))
+    if d.long:
+        d.acknowledge(5, 2)
+        writes((7, 5))
     d.acknowledge(2, 3)
     writes((7,), (2, 5))
-    # the same flow byte in another decision binds nothing; the same switch does
-    d.decide(0, 1, 255)
-    writes((2, 5))
-    d.decide(5, 2, 1)
-    writes((5,), (2, 9))
     if d.long:
+        # the same flow byte in another decision binds nothing; the same switch does
+        d.decide(0, 1, 255)
+        writes((2, 5))
+        d.decide(5, 2, 1)
+        writes((5, 2, 9))
         for switch, number in ((2, 6), (9, 5), (5, 7), (2, 8), (9, 12)):
             d.acknowledge(switch, number)
             writes((2, 5, 7, 9))
-    # the plan's first change done before it was decided: its decision's first number is still that one's
-    d.start(3, 4)
-    d.set_acknowledged(2, 1)
-    d.decide(5, 1, 1)
-    writes((2,), (5, 7, 9))
 
 
 def writing(d):
@@ -439,7 +494,7 @@ def writing(d):
     d.set_place(0, (LARGEST, LARGEST, 255, 15, (LARGEST, 32, 65535)))
     d.set_count(1)
     d.write(15, 48, 18)
-    for number in d.some((LARGEST,), (LARGEST, LARGEST - 1)):
+    for number in d.some((), (LARGEST, LARGEST, LARGEST - 1)):
         d.acknowledge(15, number)
         d.write(15)
 
@@ -451,9 +506,10 @@ def stores(d):
     for length in d.some((128, 513), (0, 1, 32, 480, 511, 544)):
         d.store(2, length)
         d.receive(b"")
-        d.acknowledge(2, 1)
         d.write(16, 0, 9)
-        d.write(2)
+        if d.long:
+            d.acknowledge(2, 1)
+            d.write(2)
     d.set_id(4)
     d.receive(b"")
     d.write(2)
@@ -467,7 +523,7 @@ def limits(d):
     """20 for each clause, from a state that is good but for it; and then from the good one again."""
     d.start(3, 4)
     d.decide(5, 1, 1)
-    c = d.controller
+    c = d.state
     whole = Controller(c.id, c.n, c.book.copy())
     good = [(1, 1, 0, 2, A), (2, 1, 0, 5, A), (3, 1, 1, 2, B), (4, 1, 1, 7, B), (5, 1, 2, 9, C)]
     assert c.undone() == good
@@ -476,6 +532,7 @@ def limits(d):
         damage()
         d.receive(b"")
         if d.long:
+            d.decide(5, 10, 1)
             d.write(2)
             d.write(16, 0)
             d.event(5, 10, 1)
@@ -568,38 +625,45 @@ def full(d):
 
 
 def at_random(d, seed, calls):
-    """Calls of every kind, most of them such as could pass, on few switches and flows."""
+    """Calls of every kind, most of them such as could pass, on few switches and flows. Some controllers are near the
+    largest number, and some have long plans and few acknowledgements."""
     r = random.Random(seed)
+    busy = seed % 4 == 2
     rules = [A, B, C, (0, 0, 1), (0x0A000000, 8, 0)]
     plans = []
     for trigger in {(r.randrange(5), r.randrange(3)) for _ in range(6)}:
-        plans.append((trigger, [(r.randrange(3), r.randrange(5), r.choice(rules)) for _ in range(r.randrange(7))]))
+        count = r.randrange(33 if busy else 7)
+        plans.append((trigger, [(r.randrange(3), r.randrange(5), r.choice(rules)) for _ in range(count)]))
     d.read(Book(sorted(plans)))
     n = r.randrange(1, 17)
     d.start(r.randrange(n), n)
-    c = d.controller
+    c = d.state
+    if seed % 4 == 3:
+        d.set_last(LARGEST - r.randrange(8))
     for _ in range(calls):
-        what, switch = r.randrange(10), r.randrange(5)
-        if what == 0 and c.count < 58:
-            d.decide(switch, c.serials[switch] + r.randrange(1, 4), r.randrange(3))
+        what, switch = r.randrange(2 if busy and r.randrange(3) else 10), r.randrange(5)
+        if what == 0:
+            serial = c.serials[switch] + r.choice((-1, 0, 1, 1, 1, 1, 2, 3))
+            d.decide(r.choice((16,) + (switch,) * 9), max(serial, 0), r.randrange(3))
         elif what == 1:
             d.event(switch, max(c.serials[switch] + r.randrange(-1, 3), 0), r.randrange(256))
         elif what == 2:
-            s = bytearray(acknowledgement(switch, c.id, c.acknowledged[switch] + 1))
+            s = bytearray(acknowledgement(switch, c.id, min(c.acknowledged[switch] + 1, LARGEST)))
             s[r.randrange(23)] ^= 1 << r.randrange(8)
             d.receive(bytes(s))
         elif what < 6:
             of = [u[0] for u in c.undone() if u[3] == switch] + [c.acknowledged[switch], c.last + 1]
-            d.acknowledge(switch, max(min(of) + r.choice((0, 0, 0, 0, 1, -1)), 0))
+            ahead = min(of) if r.randrange(8) else c.last + r.randrange(9)
+            d.acknowledge(switch, min(max(ahead + r.choice((0, 0, 0, 0, 1, -1)), 0), LARGEST))
         else:
             d.write(switch, r.choice((48, 48, 48, 40)), r.randrange(20))
 
 
 def duty(long):
     d = Duty(long)
-    for scene in (setups, questions, events, acknowledgements, readiness, writing, stores, limits):
+    for scene in (setups, questions, events, acknowledgements, decisions, readiness, writing, stores, limits, room):
         scene(d)
-    for seed in d.some((), range(12)):
+    for seed in d.some((), range(16)):
         at_random(d, seed, 80)
     if long:
         full(d)

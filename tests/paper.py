@@ -21,10 +21,10 @@ def tag(secret, body):
 
 
 class Calls:
-    """The cases so far, as bytes, and the lines they must print."""
+    """Calls at one end: its state, the cases so far, as bytes, and the lines they must print."""
 
-    def __init__(self, long):
-        self.long = long
+    def __init__(self, long, state):
+        self.long, self.state = long, state
         self.cases, self.lines = b"", []
 
     def some(self, few, many):
@@ -33,6 +33,20 @@ class Calls:
 
     def case(self, letter, body):
         self.cases += letter + struct.pack(">H", len(body)) + body
+
+    # What a state is made to be, without a call: the fields that both ends have.
+
+    def set_id(self, id):
+        self.case(b"X", bytes([0, id]))
+        self.state.id = id
+
+    def set_n(self, n):
+        self.case(b"X", bytes([1, n]))
+        self.state.n = n
+
+    def set_last(self, last):
+        self.case(b"X", struct.pack(">BI", 2, last))
+        self.state.last = last
 
     def end(self):
         """A case of no kind, and one that is cut."""

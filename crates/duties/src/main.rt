@@ -234,6 +234,18 @@ fn receive(d: Duty, keys: &[u8], s: &[u8]) -> Duty {
     next
 }
 
+// A decision of the switch of the first byte, the serial of the next four and the cause of the last.
+fn decide(d: Duty, s: &[u8]) -> Duty {
+    let state = d.controller;
+    say(b"decided");
+    let next = replied(
+        d,
+        controller::decide(state, byte_at(s, 0), u32_at(s, 1), byte_at(s, 5)),
+    );
+    say(b"\n");
+    next
+}
+
 fn offset_of(s: &[u8]) -> usize {
     let wide = (u32_at(s, 2) as u64) * 4294967296 + (u32_at(s, 6) as u64);
     wide as usize
@@ -411,6 +423,7 @@ fn run_case(d: Duty, letter: u8, s: &[u8]) -> Duty {
         b'S' => set_up(d, s),
         b'K' => store_keys(d, s),
         b'M' => receive(d, keys, s),
+        b'D' => decide(d, s),
         b'W' => write(d, keys, s),
         b'X' => alter(d, s),
         _ => {
