@@ -12,6 +12,7 @@ use crate::Reply;
 use crate::changes::hold;
 use crate::changes::none_held;
 use crate::limits;
+use crate::states::replied;
 
 // The undone changes that are not done by these acknowledged numbers, moved together.
 fn still_undone(h: Held, acknowledged: [u32; limits::PLACES]) -> Held
@@ -52,18 +53,10 @@ pub(crate) fn take_acknowledgement(c: Controller, switch: u8, number: u32) -> Re
 {
     let s = switch as usize;
     if number <= c.acknowledged[s] {
-        return Reply {
-            answer: answer::REPEAT,
-            offer: Offer::Nothing,
-            state: c,
-        };
+        return replied(c, answer::REPEAT);
     }
     let state = acknowledged_by(c, s, number);
-    Reply {
-        answer: answer::DONE,
-        offer: Offer::Nothing,
-        state: state,
-    }
+    replied(state, answer::DONE)
 }
 
 // Question 22; then the event of a known switch is offered.
@@ -72,11 +65,7 @@ pub(crate) fn take_event(c: Controller, switch: u8, serial: u32, cause: u8) -> R
     ensures { λ r. ⌜ r ≡ takeEvent c switch serial cause ⌝ }
 {
     if serial <= c.serials[switch as usize] {
-        return Reply {
-            answer: answer::SERIAL_DECIDED,
-            offer: Offer::Nothing,
-            state: c,
-        };
+        return replied(c, answer::SERIAL_DECIDED);
     }
     Reply {
         answer: answer::DONE,

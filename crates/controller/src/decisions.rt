@@ -10,12 +10,12 @@ ghost use Rattle.controller.specs.States.{unchanged, controllerOk};
 ghost use Rattle.controller.specs.Decisions.{decisionQuestions, decided, decidedBy};
 use crate::Controller;
 use crate::Held;
-use crate::Offer;
 use crate::Reply;
 use crate::Undone;
 use crate::changes::hold;
 use crate::limits;
 use crate::states::controller_ok;
+use crate::states::replied;
 use playbook::Change;
 
 // A plan's change with a number, of the decision with a first number.
@@ -60,17 +60,6 @@ pub(crate) fn with_plan(
         i += 1;
     }
     out
-}
-
-// An answer with a state, and nothing offered.
-fn replied(state: Controller, k: u8) -> Reply
-    ensures { λ r. ⌜ r ≡ unchanged state k ⌝ }
-{
-    Reply {
-        answer: k,
-        offer: Offer::Nothing,
-        state: state,
-    }
 }
 
 // Question 23, which counts the whole plan, and 24, which asks the state afterwards; then the decision is taken.

@@ -5,11 +5,11 @@ ghost use Rattle.message.specs.declared.Message.the-variants as kinds;
 ghost use Rattle.controller.specs.States.{controllerOk};
 ghost use Rattle.controller.specs.Receiving.{arrived, receivedBy};
 use crate::Controller;
-use crate::Offer;
 use crate::Reply;
 use crate::acknowledgements::take_acknowledgement;
 use crate::acknowledgements::take_event;
 use crate::limits;
+use crate::states::replied;
 use crate::states::state_question;
 use message::End;
 use message::Message;
@@ -29,11 +29,7 @@ fn receive_event(
 {
     let k = message::sender_question(limits::SWITCHES, c.id, keys, bytes, switch, receiver);
     if k != answer::DONE {
-        return Reply {
-            answer: k,
-            offer: Offer::Nothing,
-            state: c,
-        };
+        return replied(c, k);
     }
     take_event(c, switch, serial, cause)
 }
@@ -53,11 +49,7 @@ fn receive_acknowledgement(
 {
     let k = message::sender_question(limits::SWITCHES, c.id, keys, bytes, switch, receiver);
     if k != answer::DONE {
-        return Reply {
-            answer: k,
-            offer: Offer::Nothing,
-            state: c,
-        };
+        return replied(c, k);
     }
     take_acknowledgement(c, switch, number)
 }
@@ -68,11 +60,7 @@ pub fn receive(c: Controller, keys: &[u8], bytes: &[u8]) -> Reply
 {
     let k = state_question(c, keys.len());
     if k != answer::DONE {
-        return Reply {
-            answer: k,
-            offer: Offer::Nothing,
-            state: c,
-        };
+        return replied(c, k);
     }
     match message::read(End::Controller, bytes) {
         Message::Event {
@@ -86,20 +74,12 @@ pub fn receive(c: Controller, keys: &[u8], bytes: &[u8]) -> Reply
             controller,
             number,
         } => receive_acknowledgement(c, keys, bytes, switch, controller, number),
-        Message::Refused(k) => Reply {
-            answer: k,
-            offer: Offer::Nothing,
-            state: c,
-        },
+        Message::Refused(k) => replied(c, k),
         Message::Share {
             controller: _,
             switch: _,
             number: _,
             rule: _,
-        } => Reply {
-            answer: answer::WRONG_KIND,
-            offer: Offer::Nothing,
-            state: c,
-        },
+        } => replied(c, answer::WRONG_KIND),
     }
 }

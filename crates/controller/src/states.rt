@@ -6,7 +6,7 @@ ghost use Rattle.answer.specs.Ask.{firstNo};
 ghost use Rattle.lists.specs.Arrays.{every};
 ghost use Rattle.lists.specs.Rising.{risingFrom};
 ghost use Rattle.controller.specs.Changes.{numbersOf};
-ghost use Rattle.controller.specs.States.{inRange, fresh, setupOf, undoneOk, controllerOk, stateQuestions};
+ghost use Rattle.controller.specs.States.{unchanged, inRange, fresh, setupOf, undoneOk, controllerOk, stateQuestions};
 use crate::Controller;
 use crate::Offer;
 use crate::Reply;
@@ -16,6 +16,17 @@ use crate::changes::is_undone;
 use crate::changes::none_held;
 use crate::limits;
 use playbook::Playbook;
+
+// An answer with a state, and nothing offered.
+pub(crate) fn replied(state: Controller, k: u8) -> Reply
+    ensures { λ r. ⌜ r ≡ unchanged state k ⌝ }
+{
+    Reply {
+        answer: k,
+        offer: Offer::Nothing,
+        state: state,
+    }
+}
 
 // Whether a controller can have this id, and a domain so many controllers.
 fn in_range(id: u8, n: u8) -> bool
@@ -53,19 +64,11 @@ pub fn setup(id: u8, n: u8, p: Playbook) -> Reply
 {
     if in_range(id, n) {
         let state = new(id, n, p);
-        Reply {
-            answer: answer::DONE,
-            offer: Offer::Nothing,
-            state: state,
-        }
+        replied(state, answer::DONE)
     } else {
         let none = playbook::empty();
         let state = new(0, 0, none);
-        Reply {
-            answer: answer::LIMITS_BROKEN,
-            offer: Offer::Nothing,
-            state: state,
-        }
+        replied(state, answer::LIMITS_BROKEN)
     }
 }
 

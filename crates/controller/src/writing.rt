@@ -4,11 +4,11 @@ ghost use mathlib.Core.Bool.{true};
 ghost use Rattle.controller.specs.States.{controllerOk};
 ghost use Rattle.controller.specs.Writing.{shareFor, shareWritten};
 use crate::Controller;
-use crate::Offer;
 use crate::Ready;
 use crate::Reply;
 use crate::limits;
 use crate::readiness::ready_in;
+use crate::states::replied;
 use crate::states::state_question;
 use message::Message;
 
@@ -41,32 +41,16 @@ pub fn write_share(c: Controller, keys: &[u8], switch: u8, frame: &mut [u8], at:
 {
     let k = state_question(c, keys.len());
     if k != answer::DONE {
-        return Reply {
-            answer: k,
-            offer: Offer::Nothing,
-            state: c,
-        };
+        return replied(c, k);
     }
     if limits::SWITCHES <= switch {
-        return Reply {
-            answer: answer::UNKNOWN_ID,
-            offer: Offer::Nothing,
-            state: c,
-        };
+        return replied(c, answer::UNKNOWN_ID);
     }
     if !message::fits(frame.len(), at, message::layout::SHARE_LENGTH) {
-        return Reply {
-            answer: answer::DOES_NOT_FIT,
-            offer: Offer::Nothing,
-            state: c,
-        };
+        return replied(c, answer::DOES_NOT_FIT);
     }
     let m = current_share(c, switch);
     let key = message::keys::LENGTH * (switch as usize);
     let k = message::write(m, &keys[key..key + message::keys::LENGTH], frame, at);
-    Reply {
-        answer: k,
-        offer: Offer::Nothing,
-        state: c,
-    }
+    replied(c, k)
 }

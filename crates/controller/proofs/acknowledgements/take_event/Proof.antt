@@ -10,8 +10,9 @@ use Rattle.controller.proofs.acknowledgements.take_event.Tie as tie
 
 returns : tie.Need-returns
 returns c =
-    let a = c .before .before .args in
-    sym (refused _ _ 22 _ _ (le-ltb (serialOf (a .t1) (a .switch)) (a .serial) (omega arith)))
+    let a = c .before .before .before .args in
+    c .replied .ensures
+    ∙ sym (refused _ _ 22 _ _ (le-ltb (serialOf (a .t1) (a .switch)) (a .serial) (omega arith)))
 
 returns-2 : tie.Need-returns-2
 returns-2 c =
@@ -19,4 +20,4 @@ returns-2 c =
     sym (asked _ _ 22 _ _ (lt-ltb (serialOf (a .t1) (a .switch)) (a .serial) (omega arith)) ∙ none-asked _ _)
 
 pub take-event-spec : {M : Type 1} → statement M
-take-event-spec = tie.close (tie.spec (λ c. search needs) (λ c. search needs) returns returns-2)
+take-event-spec = tie.close (tie.spec (λ c. search needs) (λ c. search needs) (λ c κs. search needs) returns returns-2)

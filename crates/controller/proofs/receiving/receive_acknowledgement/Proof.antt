@@ -11,7 +11,7 @@ use Rattle.controller.proofs.receiving.receive_acknowledgement.Statemen
 use Rattle.controller.proofs.receiving.receive_acknowledgement.Tie as tie
 
 returns : tie.Need-returns
-returns c = stopped _ _ _ (c .before .sender-question .ensures) (λ e. omega arith)
+returns c = c .replied .ensures ∙ stopped _ _ _ (c .before .before .sender-question .ensures) (λ e. omega arith)
 
 -- questions 12 to 14 answered yes
 known : (c : tie.Else1)
@@ -29,4 +29,4 @@ returns-2 c = c .take-acknowledgement .ensures ∙ sym (all-yes _ _ _ refl (know
 
 pub receive-acknowledgement-spec : {M : Type 1} → statement M
 receive-acknowledgement-spec =
-    tie.close (tie.spec (λ c κs. search needs) returns take-acknowledgement-requires returns-2)
+    tie.close (tie.spec (λ c κs. search needs) (λ c κs. search needs) returns take-acknowledgement-requires returns-2)

@@ -11,7 +11,7 @@ use Rattle.controller.proofs.receiving.receive_event.Statement.{stateme
 use Rattle.controller.proofs.receiving.receive_event.Tie as tie
 
 returns : tie.Need-returns
-returns c = stopped _ _ _ (c .before .sender-question .ensures) (λ e. omega arith)
+returns c = c .replied .ensures ∙ stopped _ _ _ (c .before .before .sender-question .ensures) (λ e. omega arith)
 
 -- questions 12 to 14 answered yes
 known : (c : tie.Else1)
@@ -26,4 +26,4 @@ returns-2 : tie.Need-returns-2
 returns-2 c = c .take-event .ensures ∙ sym (all-yes _ _ _ refl (known (c .before)))
 
 pub receive-event-spec : {M : Type 1} → statement M
-receive-event-spec = tie.close (tie.spec (λ c κs. search needs) returns take-event-requires returns-2)
+receive-event-spec = tie.close (tie.spec (λ c κs. search needs) (λ c κs. search needs) returns take-event-requires returns-2)

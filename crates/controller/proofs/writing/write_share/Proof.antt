@@ -37,6 +37,10 @@ Past c n =
     ≡ reply (drop n (writeQuestions (a .c) (a .keys .now) (a .switch) (a .frame .now) (a .at)))
     (λ k. (unchanged (a .c) k, a .frame .now)) (unchanged (a .c) 0, after c)
 
+-- a reply beside a frame
+with-frame : (frame : List ℕ) {r t : Reply} → r ≡ t → _≡_ {A = Reply × List ℕ} (r, frame) (t, frame)
+with-frame frame e = ap (λ (r : Reply). (r, frame)) e
+
 ready : (c : tie.Else1)
     → let a = c .before .before .before .before .args in
     (controllerOk (a .c) ≡ true) × (length (a .keys .now) ≡ keyLength * 16)
@@ -62,19 +66,24 @@ fitting c = known (c .before .before) ∙ asked _ _ 25 _ _ (fits c)
 returns : tie.Need-returns
 unfolding shareWritten reply
 returns c =
-    let a = c .before .before .before .before .args in
-    stopped (stateQuestions (a .c) (length (a .keys .now))) (λ k. (unchanged (a .c) k, a .frame .now)) _
-    (c .before .state-question .ensures) (λ e. omega arith)
+    let a = c .before .before .before .before .before .args in
+    with-frame (a .frame .now) (c .replied .ensures)
+    ∙ stopped (stateQuestions (a .c) (length (a .keys .now))) (λ k. (unchanged (a .c) k, a .frame .now)) _
+    (c .before .before .state-question .ensures) (λ e. omega arith)
 
 returns-2 : tie.Need-returns-2
 returns-2 c =
-    let a = c .before .before .before .before .before .args in
-    sym (within (c .before) ∙ refused _ _ 12 _ _ (le-ltb (a .switch) 16 (omega arith)))
+    let a = c .before .before .before .before .before .before .args in
+    with-frame (a .frame .now) (c .replied2 .ensures)
+    ∙ sym (within (c .before .before) ∙ refused _ _ 12 _ _ (le-ltb (a .switch) 16 (omega arith)))
 
 returns-3 : tie.Need-returns-3
 returns-3 c =
-    sym (known (c .before .before)
-    ∙ refused _ _ 25 _ _ (sym (c .before .fits2 .ensures) ∙ not-true _ (c .if3 .taken)))
+    let then = c .before in
+    let a = then .before .before .before .before .before .before .before .args in
+    with-frame (a .frame .now) (c .replied3 .ensures)
+    ∙ sym (known (then .before .before)
+    ∙ refused _ _ 25 _ _ (sym (then .before .fits2 .ensures) ∙ not-true _ (then .if3 .taken)))
 
 current-share-requires : tie.Need-current-share-requires
 current-share-requires c κs = ready (c .before .before .before) .0
@@ -84,7 +93,7 @@ part-write-end c = omega (arith, ready (c .before .before .before .before) .1)
 
 returns-4 : tie.Need-returns-4
 returns-4 c =
-    let call = c .before .before in
+    let call = c .before .before .before in
     let share = call .before .before .before in
     let there = share .before in
     let s = there .before .before .before .before .before .before .before in
@@ -92,7 +101,8 @@ returns-4 c =
     let key = keyAt (a .keys .now) (a .switch) in
     let fit = leb-true (a .at + shareLength) (length (a .frame .now)) (fits there) in
     let replied : ℕ × List ℕ → Reply × List ℕ = λ x. (unchanged (a .c) (x .0), x .1) in
-    ap replied
+    with-frame _ (c .replied4 .ensures)
+    ∙ ap replied
     (call .write .ensures
     ∙ ap (λ (k : List ℕ). writeTo k (share .current-share .result) (a .frame .now) (a .at))
     (key-lent (a .keys .now) (a .switch))
@@ -104,6 +114,7 @@ returns-4 c =
 pub write-share-spec : {M : Type 1} → statement M
 write-share-spec =
     tie.close
-    (tie.spec (λ c κs. search needs) returns returns-2 (λ c κs. search needs) returns-3 current-share-requires
-    (λ c. search needs) (λ c. search needs) (λ c. search needs) (λ c. search needs) part-write-end
+    (tie.spec (λ c κs. search needs) (λ c κs. search needs) returns (λ c κs. search needs) returns-2
+    (λ c κs. search needs) (λ c κs. search needs) returns-3 current-share-requires (λ c. search needs)
+    (λ c. search needs) (λ c. search needs) (λ c. search needs) part-write-end (λ c κs. search needs)
     (λ c κs. search needs) (λ c. search needs) returns-4)
