@@ -95,4 +95,5 @@ module _ (c : Controller) (s serial cause : ℕ) where
       plan-taken n =
           let room : length (heldAfter c (s, cause)) ≤ 64 = rw held at n in
           rw (held, ← numbers)
-          (sym (asked _ _ 23 _ _ (le-leb _ _ (numbers-left left)) ∙ asked _ _ 24 _ _ (le-leb _ _ room) ∙ none-asked _ _))
+          (sym (asked _ _ 23 _ _ (le-leb _ _ (numbers-left left))
+          ∙ asked _ _ 24 _ _ (le-leb _ _ room) ∙ none-asked _ _))

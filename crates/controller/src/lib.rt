@@ -1,5 +1,6 @@
-// The controller end (document 01, "Controller end"): its state by value, events offered, acknowledgements and decisions
-// taken, and the share of a switch's ready change written. Every call takes every state, byte string and number.
+// The controller end (document 01, "Controller end"): its state by value, events offered, acknowledgements and
+// decisions taken, and the share of a switch's ready change written. Every call takes every state, byte string and
+// number.
 use flow::Rule;
 use playbook::Playbook;
 

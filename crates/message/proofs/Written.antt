@@ -16,6 +16,10 @@ use Rattle.message.specs.declared.Message.{Message}
 use Rattle.message.proofs.Inverse.{decode-encode, encode-sealed}
 use Rattle.message.proofs.Lengths.{encode-length}
 
+-- a reply beside the frame that it comes with
+pub with-frame : {A : Type 0} (frame : List ℕ) {r t : A} → r ≡ t → _≡_ {A = A × List ℕ} (r, frame) (t, frame)
+with-frame frame e = ap (λ r. (r, frame)) e
+
 -- a frame with bytes at an offset
 module _ (w frame : List ℕ) (at : ℕ) (fit : at + length w ≤ length frame) where
   before-length : length (take at frame) ≡ at

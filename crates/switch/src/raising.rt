@@ -5,6 +5,7 @@ use crate::Raised;
 use crate::Reply;
 use crate::Stepped;
 use crate::Switch;
+use crate::states::replied;
 use crate::states::switch_ok;
 
 const LAST_SERIAL: u32 = 4294967295;
@@ -33,18 +34,12 @@ pub fn raise(s: Switch, cause: u8) -> Reply
     ensures { λ r. ⌜ r ≡ raisedBy s cause ⌝ }
 {
     if !switch_ok(s) {
-        return Reply {
-            answer: answer::LIMITS_BROKEN,
-            state: s,
-        };
+        return replied(s, answer::LIMITS_BROKEN);
     }
     let event = s.raised;
     let step = next_event(event, cause);
     let raised = step.raised;
     let mut next = s;
     next.raised = raised;
-    Reply {
-        answer: step.answer,
-        state: next,
-    }
+    replied(next, step.answer)
 }

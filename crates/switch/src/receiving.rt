@@ -7,6 +7,7 @@ ghost use Rattle.switch.specs.Receiving.{arrived, receivedBy};
 use crate::Reply;
 use crate::Switch;
 use crate::shares::take_share;
+use crate::states::replied;
 use crate::states::state_question;
 use flow::Rule;
 use message::End;
@@ -28,10 +29,7 @@ fn receive_share(
 {
     let k = message::sender_question(s.n, s.id, keys, bytes, controller, receiver);
     if k != answer::DONE {
-        return Reply {
-            answer: k,
-            state: s,
-        };
+        return replied(s, k);
     }
     take_share(s, controller, number, rule)
 }
@@ -42,10 +40,7 @@ pub fn receive(s: Switch, keys: &[u8], bytes: &[u8]) -> Reply
 {
     let k = state_question(s, keys.len());
     if k != answer::DONE {
-        return Reply {
-            answer: k,
-            state: s,
-        };
+        return replied(s, k);
     }
     match message::read(End::Switch, bytes) {
         Message::Share {
@@ -54,26 +49,17 @@ pub fn receive(s: Switch, keys: &[u8], bytes: &[u8]) -> Reply
             number,
             rule,
         } => receive_share(s, keys, bytes, controller, switch, number, rule),
-        Message::Refused(k) => Reply {
-            answer: k,
-            state: s,
-        },
+        Message::Refused(k) => replied(s, k),
         Message::Event {
             switch: _,
             controller: _,
             serial: _,
             cause: _,
-        } => Reply {
-            answer: answer::WRONG_KIND,
-            state: s,
-        },
+        } => replied(s, answer::WRONG_KIND),
         Message::Acknowledgement {
             switch: _,
             controller: _,
             number: _,
-        } => Reply {
-            answer: answer::WRONG_KIND,
-            state: s,
-        },
+        } => replied(s, answer::WRONG_KIND),
     }
 }

@@ -14,6 +14,7 @@ use crate::Switch;
 use crate::slots::does_hold;
 use crate::slots::emptied_slots;
 use crate::slots::is_quorum;
+use crate::states::replied;
 use flow::Rule;
 
 // Whether a share with the number of its sender's slot has the rule that the slot holds.
@@ -79,15 +80,9 @@ fn store(s: Switch, c: usize, number: u32, rule: Rule) -> Reply
     let slots = next.slots;
     if is_quorum(s.n, slots, number, rule) {
         let state = apply(next, number, rule);
-        Reply {
-            answer: answer::APPLIED,
-            state: state,
-        }
+        replied(state, answer::APPLIED)
     } else {
-        Reply {
-            answer: answer::DONE,
-            state: next,
-        }
+        replied(next, answer::DONE)
     }
 }
 
@@ -100,16 +95,10 @@ pub(crate) fn take_share(s: Switch, controller: u8, number: u32, rule: Rule) -> 
     let slot = s.slots[c];
     let k = share_question(s, slot, number, rule);
     if k != answer::DONE {
-        return Reply {
-            answer: k,
-            state: s,
-        };
+        return replied(s, k);
     }
     if does_hold(slot, number, rule) {
-        return Reply {
-            answer: answer::REPEAT,
-            state: s,
-        };
+        return replied(s, answer::REPEAT);
     }
     store(s, c, number, rule)
 }

@@ -1,7 +1,7 @@
 // The state of a switch: set up, and its limits.
 ghost use mathlib.Core.Path.{_≡_};
 ghost use Rattle.answer.specs.Ask.{firstNo};
-ghost use Rattle.switch.specs.States.{inRange, fresh, setupOf, switchOk, stateQuestions};
+ghost use Rattle.switch.specs.States.{unchanged, inRange, fresh, setupOf, switchOk, stateQuestions};
 use crate::Raised;
 use crate::Reply;
 use crate::Switch;
@@ -9,6 +9,16 @@ use crate::limits;
 use crate::slots::empty_from;
 use crate::slots::empty_slot;
 use crate::slots::slots_ok;
+
+// An answer with a state.
+pub(crate) fn replied(state: Switch, k: u8) -> Reply
+    ensures { λ r. ⌜ r ≡ unchanged state k ⌝ }
+{
+    Reply {
+        answer: k,
+        state: state,
+    }
+}
 
 // Whether a switch can have this id, and a domain so many controllers.
 fn in_range(id: u8, n: u8) -> bool
@@ -48,16 +58,10 @@ pub fn setup(id: u8, n: u8) -> Reply
 {
     if in_range(id, n) {
         let state = new(id, n);
-        Reply {
-            answer: answer::DONE,
-            state: state,
-        }
+        replied(state, answer::DONE)
     } else {
         let state = new(0, 0);
-        Reply {
-            answer: answer::LIMITS_BROKEN,
-            state: state,
-        }
+        replied(state, answer::LIMITS_BROKEN)
     }
 }
 

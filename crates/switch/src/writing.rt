@@ -5,6 +5,7 @@ ghost use Rattle.message.specs.Writing.{isMessage, portSaid};
 ghost use Rattle.switch.specs.Writing.{written, eventWritten, acknowledgementWritten};
 use crate::Reply;
 use crate::Switch;
+use crate::states::replied;
 use crate::states::state_question;
 use message::Message;
 
@@ -24,35 +25,20 @@ fn write(
 {
     let k = state_question(s, keys.len());
     if k != answer::DONE {
-        return Reply {
-            answer: k,
-            state: s,
-        };
+        return replied(s, k);
     }
     if s.n <= controller {
-        return Reply {
-            answer: answer::UNKNOWN_ID,
-            state: s,
-        };
+        return replied(s, answer::UNKNOWN_ID);
     }
     if !message::fits(frame.len(), at, message::length_of(m)) {
-        return Reply {
-            answer: answer::DOES_NOT_FIT,
-            state: s,
-        };
+        return replied(s, answer::DOES_NOT_FIT);
     }
     if !there {
-        return Reply {
-            answer: answer::NOTHING_TO_SEND,
-            state: s,
-        };
+        return replied(s, answer::NOTHING_TO_SEND);
     }
     let key = message::keys::LENGTH * (controller as usize);
     let k = message::write(m, &keys[key..key + message::keys::LENGTH], frame, at);
-    Reply {
-        answer: k,
-        state: s,
-    }
+    replied(s, k)
 }
 
 // The last raised event, for a controller.

@@ -26,4 +26,5 @@ returns-2 : tie.Need-returns-2
 returns-2 c = c .take-event .ensures ∙ sym (all-yes _ _ _ refl (known (c .before)))
 
 pub receive-event-spec : {M : Type 1} → statement M
-receive-event-spec = tie.close (tie.spec (λ c κs. search needs) (λ c κs. search needs) returns take-event-requires returns-2)
+receive-event-spec =
+    tie.close (tie.spec (λ c κs. search needs) (λ c κs. search needs) returns take-event-requires returns-2)

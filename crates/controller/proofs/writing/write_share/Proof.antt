@@ -15,6 +15,7 @@ use Rattle.message.specs.Layout.{shareLength}
 use Rattle.message.specs.Writing.{encode, roomAt, placed, writeTo}
 use Rattle.message.specs.declared.Message.{Message}
 use Rattle.message.proofs.Lent.{key-lent}
+use Rattle.message.proofs.Written.{with-frame}
 use Rattle.controller.specs.States.{unchanged, controllerOk, stateQuestions}
 use Rattle.controller.specs.Writing.{shareFor, writeQuestions, shareWritten}
 use Rattle.controller.specs.declared.Reply.{Reply}
@@ -36,10 +37,6 @@ Past c n =
     shareWritten (a .c) (a .keys .now) (a .switch) (a .frame .now) (a .at)
     ≡ reply (drop n (writeQuestions (a .c) (a .keys .now) (a .switch) (a .frame .now) (a .at)))
     (λ k. (unchanged (a .c) k, a .frame .now)) (unchanged (a .c) 0, after c)
-
--- a reply beside a frame
-with-frame : (frame : List ℕ) {r t : Reply} → r ≡ t → _≡_ {A = Reply × List ℕ} (r, frame) (t, frame)
-with-frame frame e = ap (λ (r : Reply). (r, frame)) e
 
 ready : (c : tie.Else1)
     → let a = c .before .before .before .before .args in

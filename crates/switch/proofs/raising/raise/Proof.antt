@@ -9,14 +9,19 @@ use Rattle.switch.proofs.raising.raise.Tie as tie
 
 returns : tie.Need-returns
 unfolding raisedBy
-returns c = sym (refused _ _ 20 _ _ (sym (c .before .switch-ok .ensures) ∙ not-true _ (c .if1 .taken)))
+returns c =
+    let broken = sym (c .before .before .switch-ok .ensures) ∙ not-true _ (c .before .if1 .taken) in
+    c .replied .ensures ∙ sym (refused _ _ 20 _ _ broken)
 
 returns-2 : tie.Need-returns-2
 unfolding raisedBy
 returns-2 c =
-    let first = c .before .before .before in
+    let first = c .before .before .before .before in
     let within = sym (first .before .switch-ok .ensures) ∙ not-false _ (first .if1 .left) in
-    sym (asked _ _ 20 _ _ within ∙ none-asked _ _ ∙ rw (c .before .next-event .ensures))
+    c .replied2 .ensures ∙ sym (asked _ _ 20 _ _ within ∙ none-asked _ _ ∙ rw (c .before .before .next-event .ensures))
 
 pub raise-spec : {M : Type 1} → statement M
-raise-spec = tie.close (tie.spec (λ c κs. search needs) returns (λ c κs. search needs) returns-2)
+raise-spec =
+    tie.close
+    (tie.spec (λ c κs. search needs) (λ c κs. search needs) returns (λ c κs. search needs) (λ c κs. search needs)
+    returns-2)

@@ -16,7 +16,7 @@ use Rattle.switch.proofs.receiving.receive.Tie as tie
 
 returns : tie.Need-returns
 unfolding receivedBy
-returns c = stopped _ _ _ (c .before .state-question .ensures) (λ e. omega arith)
+returns c = c .replied .ensures ∙ stopped _ _ _ (c .before .before .state-question .ensures) (λ e. omega arith)
 
 -- questions 20 and 21 answered yes
 ready : (c : tie.Else1)
@@ -50,16 +50,23 @@ returns-2 c =
     c .receive-share .ensures ∙ read-as (arm .before .before) (arm .controller .given .1)
 
 returns-3 : tie.Need-returns-3
-returns-3 c = let arm = c .before in read-as (arm .before .before) (arm .k .given .1)
+returns-3 c =
+    let arm = c .before .before in
+    c .replied2 .ensures ∙ read-as (arm .before .before) (arm .k .given .1)
 
 returns-4 : tie.Need-returns-4
-returns-4 c = read-as (c .before .before) (c .enum-told .given .1)
+returns-4 c =
+    let arm = c .before in
+    c .replied3 .ensures ∙ read-as (arm .before .before) (arm .enum-told .given .1)
 
 returns-5 : tie.Need-returns-5
-returns-5 c = read-as (c .before .before) (c .enum-told2 .given .1)
+returns-5 c =
+    let arm = c .before in
+    c .replied4 .ensures ∙ read-as (arm .before .before) (arm .enum-told2 .given .1)
 
 pub receive-spec : {M : Type 1} → statement M
 receive-spec =
     tie.close
-    (tie.spec (λ c κs. search needs) returns (λ c κs. search needs) (λ c. search needs) receive-share-requires
-    (λ c. search needs) (λ c. search needs) (λ c. search needs) returns-2 returns-3 returns-4 returns-5)
+    (tie.spec (λ c κs. search needs) (λ c κs. search needs) returns (λ c κs. search needs) (λ c. search needs)
+    receive-share-requires (λ c. search needs) (λ c κs. search needs) (λ c. search needs) (λ c κs. search needs)
+    (λ c. search needs) (λ c κs. search needs) returns-2 returns-3 returns-4 returns-5)

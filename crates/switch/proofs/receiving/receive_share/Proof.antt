@@ -11,7 +11,7 @@ use Rattle.switch.proofs.receiving.receive_share.Statement.{statement}
 use Rattle.switch.proofs.receiving.receive_share.Tie as tie
 
 returns : tie.Need-returns
-returns c = stopped _ _ _ (c .before .sender-question .ensures) (λ e. omega arith)
+returns c = c .replied .ensures ∙ stopped _ _ _ (c .before .before .sender-question .ensures) (λ e. omega arith)
 
 -- questions 12 to 14 answered yes
 known : (c : tie.Else1)
@@ -28,4 +28,5 @@ returns-2 : tie.Need-returns-2
 returns-2 c = c .take-share .ensures ∙ sym (all-yes _ _ _ refl (known (c .before)))
 
 pub receive-share-spec : {M : Type 1} → statement M
-receive-share-spec = tie.close (tie.spec (λ c κs. search needs) returns take-share-requires returns-2)
+receive-share-spec =
+    tie.close (tie.spec (λ c κs. search needs) (λ c κs. search needs) returns take-share-requires returns-2)

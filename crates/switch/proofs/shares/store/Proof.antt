@@ -5,12 +5,15 @@ use Rattle.switch.proofs.shares.store.Statement.{statement}
 use Rattle.switch.proofs.shares.store.Tie as tie
 
 returns : tie.Need-returns
-returns c = rw (sym (c .before .before .is-quorum .ensures) ∙ c .before .if1 .taken, c .apply .ensures)
+returns c =
+    let then = c .before .before in
+    c .replied .ensures ∙ rw (sym (then .before .is-quorum .ensures) ∙ then .if1 .taken, c .before .apply .ensures)
 
 returns-2 : tie.Need-returns-2
-returns-2 c = rw (sym (c .before .is-quorum .ensures) ∙ c .if1 .left)
+returns-2 c = c .replied2 .ensures ∙ rw (sym (c .before .before .is-quorum .ensures) ∙ c .before .if1 .left)
 
 pub store-spec : {M : Type 1} → statement M
 store-spec =
     tie.close
-    (tie.spec (λ c. search needs) (λ c. search needs) (λ c κs. search needs) (λ c κs. search needs) returns returns-2)
+    (tie.spec (λ c. search needs) (λ c. search needs) (λ c κs. search needs) (λ c κs. search needs)
+    (λ c κs. search needs) (λ c κs. search needs) returns returns-2)

@@ -16,7 +16,7 @@ element-copy-out-slot c = omega (arith, within (c .args .t1) (c .pre .0) .few)
 
 returns : tie.Need-returns
 unfolding takeShare
-returns c = stopped _ _ _ (c .before .share-question .ensures) (λ e. omega arith)
+returns c = c .replied .ensures ∙ stopped _ _ _ (c .before .before .share-question .ensures) (λ e. omega arith)
 
 -- questions 15 to 19 answered yes
 passed : (c : tie.Else1)
@@ -32,8 +32,8 @@ past c = all-yes _ _ _ refl (passed c)
 
 returns-2 : tie.Need-returns-2
 returns-2 c =
-    let repeat = sym (c .before .does-hold .ensures) ∙ c .if2 .taken in
-    sym (past (c .before .before) ∙ rw repeat)
+    let repeat = sym (c .before .before .does-hold .ensures) ∙ c .before .if2 .taken in
+    c .replied2 .ensures ∙ sym (past (c .before .before .before) ∙ rw repeat)
 
 store-requires : tie.Need-store-requires
 store-requires c κs =
@@ -51,5 +51,5 @@ returns-3 c =
 pub take-share-spec : {M : Type 1} → statement M
 take-share-spec =
     tie.close
-    (tie.spec (λ c. search needs) element-copy-out-slot (λ c κs. search needs) returns (λ c κs. search needs)
-    returns-2 store-requires returns-3)
+    (tie.spec (λ c. search needs) element-copy-out-slot (λ c κs. search needs) (λ c κs. search needs) returns
+    (λ c κs. search needs) (λ c κs. search needs) returns-2 store-requires returns-3)

@@ -7,14 +7,16 @@ use Rattle.switch.proofs.states.setup.Tie as tie
 
 returns : tie.Need-returns
 returns c =
-    let within = sym (c .before .before .in-range .ensures) ∙ c .before .if1 .taken in
-    rw (c .new .ensures) (sym (asked _ _ 20 _ _ within ∙ none-asked _ _))
+    let within = sym (c .before .before .before .in-range .ensures) ∙ c .before .before .if1 .taken in
+    c .replied .ensures ∙ rw (c .before .new .ensures) (sym (asked _ _ 20 _ _ within ∙ none-asked _ _))
 
 returns-2 : tie.Need-returns-2
 returns-2 c =
-    let outside = sym (c .before .before .in-range .ensures) ∙ c .before .if1 .left in
-    rw (c .new2 .ensures) (sym (refused _ _ 20 _ _ outside))
+    let outside = sym (c .before .before .before .in-range .ensures) ∙ c .before .before .if1 .left in
+    c .replied2 .ensures ∙ rw (c .before .new2 .ensures) (sym (refused _ _ 20 _ _ outside))
 
 pub setup-spec : {M : Type 1} → statement M
 setup-spec =
-    tie.close (tie.spec (λ c κs. search needs) (λ c κs. search needs) (λ c κs. search needs) returns returns-2)
+    tie.close
+    (tie.spec (λ c κs. search needs) (λ c κs. search needs) (λ c κs. search needs) (λ c κs. search needs)
+    (λ c κs. search needs) returns returns-2)
