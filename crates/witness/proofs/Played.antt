@@ -168,14 +168,14 @@ module _ (S : Setting) (v : Valid S) where
         (λ bytes. atController c (controller.receives bytes)) r (firstHalf S r)
     told r =
         subst (Sometime (step S) Told r) (append-nil (firstHalf S r))
-        (each-moment Told _ _ s l
+        (each-moment Told _ _ s (omega arith)
         (each-moment Told (S .n) (tells S s) c (keeps .0)
         (λ u rest. rw (keeps .1) (now (step S) Told u _ (λ e. List·Memᴰ·tail (List·Memᴰ·head refl))))) r [])
 
     sent : (r : Run) → Delivered S (λ u. shareNow S u c s) (λ bytes. atSwitch s (receives bytes)) r (secondHalf S r)
     sent r =
         subst (Sometime (step S) Sent r) (append-nil (secondHalf S r))
-        (each-moment Sent _ _ s l
+        (each-moment Sent _ _ s (omega arith)
         (each-moment Sent (S .n) (shares S s) c (keeps .0)
         (λ u rest. now (step S) Sent u (shares S s u c ++ rest) (λ e.
         rw (keeps .1, eq-eqb (shareNow S u c s .0) 0 e) (List·Memᴰ·tail (List·Memᴰ·head refl))))) r [])
