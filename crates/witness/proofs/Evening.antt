@@ -34,7 +34,7 @@ use Rattle.domain.proofs.Theorem.{demand3}
 use Rattle.witness.specs.Played.{rounds}
 use Rattle.witness.specs.Evening.{outage, evening, byPort, share, agrees, writes, arrives, evening-calls, answers}
 use Rattle.witness.proofs.Deliveries.{honest-call, share-arrives, stray-arrives}
-use Rattle.witness.proofs.Wrote.{share-named, log-before}
+use Rattle.witness.proofs.Wrote.{entry, share-named, log-before}
 use Rattle.witness.proofs.Extended.{all-in-run}
 use Rattle.witness.proofs.Played.{rounds-follow, brought-to-end}
 use Rattle.witness.proofs.EveningEnds.{valid, near, changes, agreed-are, agrees-0, writes-0, writes-share}
@@ -44,9 +44,6 @@ abbrev after : List Call → Run
 after calls = run (step evening) (start evening) calls
 
 -- the log, the latest call first
-abbrev entry : Call → ℕ → List ℕ → Done
-entry x answer written = record { call = x; answer = answer; written = written }
-
 abbrev log : List Done
 log =
     entry (arrives 0 2 1 3) 16 []

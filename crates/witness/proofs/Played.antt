@@ -20,7 +20,7 @@ use Rattle.controller.specs.declared.Undone.{Undone}
 use Rattle.protocol.specs.Runs.{run, Sometime, Rounds}
 use Rattle.protocol.proofs.Runs.{run-append, now, later}
 use Rattle.domain.specs.Settings.{Decision, Setting, Valid, playbook, Keeps, switchKeys}
-use Rattle.domain.specs.Calls.{Call, atSwitch, atController, Done, Run, start, step}
+use Rattle.domain.specs.Calls.{Call, atSwitch, atController, Run, start, step}
 use Rattle.domain.specs.Premises.{SwitchWrote, ControllerWrote, taken, InRun, Unforged, Premises}
 use Rattle.domain.specs.Premises as premises
 use Rattle.domain.specs.Agreement.{agreedChanges}
@@ -34,12 +34,8 @@ use Rattle.domain.proofs.Theorem.{demand3}
 use Rattle.witness.specs.Deliveries.{Honest}
 use Rattle.witness.specs.Played.{tells, shares, forEach, firstHalf, secondHalf, round, rounds}
 use Rattle.witness.proofs.Deliveries.{honest-call, share-arrives, switch-arrives}
-use Rattle.witness.proofs.Wrote.{logged, share-wrote, acknowledgement-wrote}
+use Rattle.witness.proofs.Wrote.{entry, logged, share-wrote, acknowledgement-wrote}
 use Rattle.witness.proofs.Extended.{NoDecision, fair-join, fair-call, premises-join}
-
--- what the log keeps of a call
-abbrev entry-of : Call → ℕ → List ℕ → Done
-entry-of x answer written = record { call = x; answer = answer; written = written }
 
 module _ (S : Setting) (v : Valid S) where
   -- a list of calls for each number below k: within the premises if each is, wherever it begins
@@ -91,7 +87,7 @@ module _ (S : Setting) (v : Valid S) where
         none small in
         let whole : take acknowledgementLength bytes ≡ bytes =
         take-all acknowledgementLength bytes (omega (arith, sent .long)) in
-        let entry = ap₂ (entry-of acknowledging) none whole in
+        let entry = ap₂ (entry acknowledging) none whole in
         let next = step S r acknowledging in
         let wrote : SwitchWrote (next .log) s c bytes =
         rw (logged S r acknowledging) (premises.acknowledgement (List·Memᴰ·head (sym entry))) in
@@ -111,7 +107,7 @@ module _ (S : Setting) (v : Valid S) where
         let sent = share-there S v r c _ (R .controllers c keeps) (ranged S v) (begins .0) (begins .1) s
         (replicate shareLength 0) 0 none in
         let whole : take shareLength bytes ≡ bytes = take-all shareLength bytes (omega (arith, sent .long)) in
-        let entry = ap₂ (entry-of sharing) none whole in
+        let entry = ap₂ (entry sharing) none whole in
         let next = step S r sharing in
         let wrote : ControllerWrote (next .log) c s bytes =
         rw (logged S r sharing) (premises.share (List·Memᴰ·head (sym entry))) in

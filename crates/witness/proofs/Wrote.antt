@@ -46,8 +46,12 @@ module _ (key : List ℕ) where
   acknowledgement-named s c k =
       rw (decode-acknowledgement _ (encode-length key (Acknowledgement s c k)) refl) premises.acknowledgement
 
+-- what a log keeps of a call
+abbrev pub entry : Call → ℕ → List ℕ → Done
+entry x answer written = record { call = x; answer = answer; written = written }
+
 module _ (S : Setting) where
-  -- what the log keeps of a call
+  -- the entry of the latest call
   abbrev pub latest : Run → Call → Done
   latest r (atSwitch s x) = record {
     call = atSwitch s x;
