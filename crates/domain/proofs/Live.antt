@@ -35,7 +35,7 @@ use Rattle.domain.proofs.Reached.{Reached, Walked, ranged}
 use Rattle.domain.proofs.Reached.{seenAll, start-reached}
 use Rattle.domain.proofs.Numbers.{numbers-are, member-at}
 use Rattle.domain.proofs.Room.{roomy}
-use Rattle.domain.proofs.Turns.{Fair, fair-first, fair-rest, walked, rounds-seen}
+use Rattle.domain.proofs.Turns.{Fair, premises-fair, fair-first, fair-rest, walked, rounds-seen}
 
 module _ (S : Setting) (v : Valid S) where
   abbrev D : protocol.Domain Rule Table
@@ -57,7 +57,7 @@ module _ (S : Setting) (v : Valid S) where
     changes = agreedChanges (playbook S) ds
 
     all-fair : Fair S v (start S) (before ++ rest)
-    all-fair = record { in-run = p .in-run; unforged = p .unforged; begun = p .beginning }
+    all-fair = premises-fair S v (before ++ rest) p
 
     early : Fair S v (start S) before
     early = fair-first S v (start S) before rest all-fair

@@ -14,8 +14,8 @@ use Rattle.protocol.specs.Worlds as protocol-worlds
 use Rattle.protocol.specs.Claims as protocol-claims
 use Rattle.protocol.proofs.Runs.{run-append, every-append}
 use Rattle.domain.specs.Settings.{Setting, Valid}
-use Rattle.domain.specs.Calls.{Call, Run, step}
-use Rattle.domain.specs.Premises.{InRun, Unforged}
+use Rattle.domain.specs.Calls.{Call, Run, start, step}
+use Rattle.domain.specs.Premises.{InRun, Unforged, Premises}
 use Rattle.domain.specs.Rounds.{Round}
 use Rattle.domain.proofs.View.{domainOf, view, seen}
 use Rattle.domain.proofs.Agreed.{change-fine}
@@ -47,6 +47,9 @@ module _ (S : Setting) (v : Valid S) where
     pub in-run : Every (step S) (InRun S) r xs
     pub unforged : Every (step S) (Unforged S) r xs
     pub begun : Begun S (run (step S) r xs)
+
+  pub premises-fair : (xs : List Call) → Premises S xs → Fair (start S) xs
+  premises-fair xs p = record { in-run = p .in-run; unforged = p .unforged; begun = p .beginning }
 
   pub fair-first : (r : Run) (xs ys : List Call) → Fair r (xs ++ ys) → Fair r xs
   fair-first r xs ys f = record {
@@ -94,8 +97,7 @@ module _ (S : Setting) (v : Valid S) where
       let R2 = call-reached S v r R x (f .in-run .0) (f .unforged .0) b in
       ⊎-elim (λ p. inl (now r R (begun-early S r (x ∷ xs) (f .begun)) (x ∷ xs) p))
       (λ q. inr (subst (λ w. Sometime (protocol-worlds.step D) Q w (calls (step S r x) xs)) (s .is)
-      (moment-seen P Q now (step S r x) R2 xs
-      (record { in-run = f .in-run .1; unforged = f .unforged .1; begun = f .begun }) q))) h
+      (moment-seen P Q now (step S r x) R2 xs (fair-rest r (x ∷ []) xs f) q))) h
 
   -- a full round is one of the protocol's
   module _ (r : Run) (R : Reached S r) (first second : List Call) (f : Fair r first)

@@ -14,7 +14,7 @@ use Rattle.switch.specs.Calls.{receives, raises, writesEvent, writesAcknowledge
 use Rattle.controller.specs.Calls.{decides, writesShare}
 use Rattle.controller.specs.Calls as controller
 use Rattle.protocol.specs.Runs.{Every}
-use Rattle.domain.specs.Settings.{Setting}
+use Rattle.domain.specs.Settings.{Setting, Keeps}
 use Rattle.domain.specs.Calls.{Call, atSwitch, atController, Run, step}
 use Rattle.domain.specs.Premises.{SwitchWrote, ControllerWrote, FromSwitch, FromController, Unforged}
 use Rattle.domain.specs.Premises as premises
@@ -50,6 +50,13 @@ switch-named premises.acknowledgement = refl
 controller-named : {c s : ℕ} {m : Message} → FromController c s m → senderOf m ≡ c
 controller-named premises.share = refl
 
+-- what names a stray names no controller that keeps the rules
+pub stray-alone : (S : Setting) (s c : ℕ) {m : Message} → FromController c s m → S .strays c ≡ true → (d : ℕ)
+    → FromController d s m → Keeps S d → ⊥
+stray-alone S s c named strays d from keeps =
+    let same = sym (controller-named named) ∙ controller-named from in
+    tf (rw same at strays) (keeps .1)
+
 module _ (S : Setting) (r : Run) (s c : ℕ) (bytes : List ℕ) where
   -- what names its sender and was written by it may arrive
   pub share-arrives : FromController c s (decode ends.Switch bytes) → ControllerWrote (r .log) c s bytes
@@ -65,6 +72,4 @@ module _ (S : Setting) (r : Run) (s c : ℕ) (bytes : List ℕ) where
   -- and so may whatever names a controller that strays
   pub stray-arrives : FromController c s (decode ends.Switch bytes) → S .strays c ≡ true
       → Honest S r (atSwitch s (receives bytes))
-  stray-arrives named strays d from keeps =
-      let same = sym (controller-named named) ∙ controller-named from in
-      tf (rw same at strays) (keeps .1)
+  stray-arrives named strays d from keeps = absurd (stray-alone S s c named strays d from keeps)

@@ -1,5 +1,5 @@
 -- A run within the premises goes on within them: with what was written, however late and however often, with whatever
--- names a controller that strays, and with calls that bring no decision. Assumes nothing.
+-- names no controller that keeps the rules, and with calls that bring no decision. Assumes nothing.
 use mathlib.Core.Path.{_≡_, sym, subst}
 use mathlib.Core.Bool.{Bool, true, not, _&&_}
 use mathlib.Core.List.{List, [], _∷_, _++_, append-nil}
@@ -19,9 +19,9 @@ use Rattle.domain.specs.Settings.{Setting, Valid, Keeps}
 use Rattle.domain.specs.Calls.{Call, atSwitch, atController, Run, start, step}
 use Rattle.domain.specs.Premises.{SwitchWrote, ControllerWrote, FromController, InRun, Unforged, decisions, Premises}
 use Rattle.domain.proofs.Reached.{Begun, Reached, begun-early, start-reached, call-reached}
-use Rattle.domain.proofs.Turns.{Fair}
+use Rattle.domain.proofs.Turns.{Fair, premises-fair, fair-rest}
 use Rattle.witness.specs.Deliveries.{Honest}
-use Rattle.witness.proofs.Deliveries.{honest-call, share-arrives, switch-arrives, stray-arrives}
+use Rattle.witness.proofs.Deliveries.{honest-call, share-arrives, switch-arrives, stray-alone}
 use Rattle.witness.proofs.Wrote.{Named, named-after, start-named}
 
 -- a call that is no decision
@@ -59,13 +59,10 @@ module _ (S : Setting) (v : Valid S) where
     begun = subst (Begun S) (sym (run-append (step S) r xs ys)) (g .begun);
   }
 
-  pub all-fair : (calls : List Call) → Premises S calls → Fair S v (start S) calls
-  all-fair calls p = record { in-run = p .in-run; unforged = p .unforged; begun = p .beginning }
-
   pub premises-join : (calls more : List Call) → Premises S calls → Fair S v (run (step S) (start S) calls) more
       → Premises S (calls ++ more)
   premises-join calls more p f =
-      let all = fair-join (start S) calls more (all-fair calls p) f in
+      let all = fair-join (start S) calls more (premises-fair S v calls p) f in
       record { in-run = all .in-run; unforged = all .unforged; beginning = all .begun }
 
   -- only a decision adds to what was brought
@@ -88,14 +85,14 @@ module _ (S : Setting) (v : Valid S) where
   named r R n (x ∷ xs) f =
       let b = begun-early S (step S r x) xs (f .begun) in
       named (step S r x) (call-reached S v r R x (f .in-run .0) (f .unforged .0) b) (named-after S r R n x) xs
-      (record { in-run = f .in-run .1; unforged = f .unforged .1; begun = f .begun })
+      (fair-rest S v r (x ∷ []) xs f)
 
   module _ (calls : List Call) (p : Premises S calls) where
     abbrev r : Run
     r = run (step S) (start S) calls
 
     run-named : Named S (r .log)
-    run-named = named (start S) (start-reached S v) (start-named S) calls (all-fair calls p)
+    run-named = named (start S) (start-reached S v) (start-named S) calls (premises-fair S v calls p)
 
     one-more : (x : Call) → InRun S r x → Honest S r x → NoDecision x → Premises S (calls ++ x ∷ [])
     one-more x h honest quiet =
@@ -114,8 +111,13 @@ module _ (S : Setting) (v : Valid S) where
         one-more (atController c (controller-calls.receives bytes)) keeps
         (switch-arrives S r s c bytes (run-named .switches s c bytes l wrote) wrote) tt
 
-    -- and so does whatever a stray makes, with good tags too
+    -- and so does whatever names no controller that keeps the rules: noise, and a stray's shares with good tags
+    pub other-later : (s : ℕ) (bytes : List ℕ) → s < 16
+        → ((c : ℕ) → FromController c s (decode ends.Switch bytes) → Keeps S c → ⊥)
+        → Premises S (calls ++ atSwitch s (receives bytes) ∷ [])
+    other-later s bytes l none =
+        one-more (atSwitch s (receives bytes)) l (λ c from keeps. absurd (none c from keeps)) tt
+
     pub stray-later : (s c : ℕ) (bytes : List ℕ) → s < 16 → S .strays c ≡ true
         → FromController c s (decode ends.Switch bytes) → Premises S (calls ++ atSwitch s (receives bytes) ∷ [])
-    stray-later s c bytes l strays from =
-        one-more (atSwitch s (receives bytes)) l (stray-arrives S r s c bytes from strays) tt
+    stray-later s c bytes l strays from = other-later s bytes l (stray-alone S s c from strays)

@@ -38,12 +38,15 @@ use Rattle.witness.proofs.Wrote.{entry, logged, share-wrote, acknowledg
 use Rattle.witness.proofs.Extended.{NoDecision, fair-join, fair-call, premises-join}
 
 module _ (S : Setting) (v : Valid S) where
+  nothing-fair : (r : Run) → Begun S r → Fair S v r []
+  nothing-fair r b = record { in-run = tt; unforged = tt; begun = b }
+
   -- a list of calls for each number below k: within the premises if each is, wherever it begins
   each-fair : (k : ℕ) (calls : Run → ℕ → List Call)
       → ((u : Run) → Reached S u → Begun S u → (i : ℕ) → i < k → Fair S v u (calls u i))
       → (r : Run) → Reached S r → Begun S r → Fair S v r (forEach S k calls r)
   unfolding forEach
-  each-fair zero calls fair r R b = record { in-run = tt; unforged = tt; begun = b }
+  each-fair zero calls fair r R b = nothing-fair r b
   each-fair (suc k) calls fair r R b =
       let f = fair r R b k (omega arith) in
       fair-join S v r (calls r k) _ f
@@ -87,10 +90,10 @@ module _ (S : Setting) (v : Valid S) where
         none small in
         let whole : take acknowledgementLength bytes ≡ bytes =
         take-all acknowledgementLength bytes (omega (arith, sent .long)) in
-        let entry = ap₂ (entry acknowledging) none whole in
+        let kept = ap₂ (entry acknowledging) none whole in
         let next = step S r acknowledging in
         let wrote : SwitchWrote (next .log) s c bytes =
-        rw (logged S r acknowledging) (premises.acknowledgement (List·Memᴰ·head (sym entry))) in
+        rw (logged S r acknowledging) (premises.acknowledgement (List·Memᴰ·head (sym kept))) in
         let named = rw whole at (acknowledgement-wrote S r R (replicate acknowledgementLength 0) 0 s c l none) in
         at-once r b acknowledging (atController c (controller.receives bytes)) l tt tt keeps
         (switch-arrives S next s c bytes named wrote) tt
@@ -107,15 +110,12 @@ module _ (S : Setting) (v : Valid S) where
         let sent = share-there S v r c _ (R .controllers c keeps) (ranged S v) (begins .0) (begins .1) s
         (replicate shareLength 0) 0 none in
         let whole : take shareLength bytes ≡ bytes = take-all shareLength bytes (omega (arith, sent .long)) in
-        let entry = ap₂ (entry sharing) none whole in
+        let kept = ap₂ (entry sharing) none whole in
         let next = step S r sharing in
         let wrote : ControllerWrote (next .log) c s bytes =
-        rw (logged S r sharing) (premises.share (List·Memᴰ·head (sym entry))) in
+        rw (logged S r sharing) (premises.share (List·Memᴰ·head (sym kept))) in
         let named = rw whole at (share-wrote S r R (replicate shareLength 0) 0 c s keeps none) in
         at-once r b sharing (atSwitch s (receives bytes)) keeps tt tt l (share-arrives S next s c bytes named wrote) tt
-
-  nothing-fair : (r : Run) → Begun S r → Fair S v r []
-  nothing-fair r b = record { in-run = tt; unforged = tt; begun = b }
 
   -- the two halves of a round
   tells-fair : (s : ℕ) → s < 16 → (r : Run) → Reached S r → Begun S r → (c : ℕ) → c < S .n → Fair S v r (tells S s r c)

@@ -53,16 +53,12 @@ entry x answer written = record { call = x; answer = answer; written = written }
 module _ (S : Setting) where
   -- the entry of the latest call
   abbrev pub latest : Run → Call → Done
-  latest r (atSwitch s x) = record {
-    call = atSwitch s x;
-    answer = switch-calls.replyTo (switchKeys S s) (r .switches s) x .answer;
-    written = switchWrites (switchKeys S s) (r .switches s) x;
-  }
-  latest r (atController c x) = record {
-    call = atController c x;
-    answer = controller-calls.replyTo (controllerKeys S c) (r .controllers c) x .answer;
-    written = controllerWrites (controllerKeys S c) (r .controllers c) x;
-  }
+  latest r (atSwitch s x) =
+      entry (atSwitch s x) (switch-calls.replyTo (switchKeys S s) (r .switches s) x .answer)
+      (switchWrites (switchKeys S s) (r .switches s) x)
+  latest r (atController c x) =
+      entry (atController c x) (controller-calls.replyTo (controllerKeys S c) (r .controllers c) x .answer)
+      (controllerWrites (controllerKeys S c) (r .controllers c) x)
 
   pub logged : (r : Run) (x : Call) → step S r x .log ≡ latest r x ∷ r .log
   unfolding step
@@ -137,7 +133,7 @@ module _ (S : Setting) where
 
   module _ (r : Run) (R : Reached S r) where
     -- an entry of the log that is the latest call's, by the call that it names
-    latest-is : (x y : Call) (bytes : List ℕ) → record { call = y; answer = 0; written = bytes } ≡ latest r x
+    latest-is : (x y : Call) (bytes : List ℕ) → entry y 0 bytes ≡ latest r x
         → (latest r y .answer ≡ 0) × (bytes ≡ latest r y .written)
     latest-is x y bytes e =
         let same : x ≡ y = sym (latest-call r x) ∙ sym (ap (λ (d : Done). d .call) e) in

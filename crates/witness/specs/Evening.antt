@@ -15,7 +15,7 @@ use Rattle.controller.specs.Calls.{decides, writesShare}
 use Rattle.domain.specs.Settings.{Decision, Setting}
 use Rattle.domain.specs.Calls.{Call, atSwitch, atController}
 
--- switch 5 raises its first event, of cause 1
+-- the one decision agreed upon: the first event of switch 5, of cause 1
 abbrev pub outage : Decision
 outage = record { switch = 5; serial = 1; cause = 1 }
 
