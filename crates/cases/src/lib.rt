@@ -9,6 +9,7 @@ ghost use Rattle.flow.specs.declared.Action.the-variants.{Remove, Set};
 use flow::Action;
 use flow::Rule;
 use libc::STDOUT_FILENO;
+use lists::byte_at;
 
 pub fn say(text: &[u8]) {
     io::write_all(STDOUT_FILENO, text);
@@ -73,13 +74,6 @@ pub fn say_rule(rule: Rule) {
     say_word(rule.prefix);
     say_byte(rule.length);
     say_port(port);
-}
-
-// The byte at a place, 0 past the end.
-pub fn byte_at(s: &[u8], i: usize) -> u8
-    ensures { λ r. ⌜ r ≡ byteAt (now (s .entry)) i ⌝ }
-{
-    if i < s.len() { s[i] } else { 0 }
 }
 
 // The numbers in the two and in the four bytes from a place.

@@ -50,7 +50,7 @@ use Rattle.domain.specs.Claim.{agreed}
 use Rattle.domain.proofs.Courses.{RuleInRange, agreed-few}
 use Rattle.domain.proofs.Agreed.{change-fine}
 use Rattle.domain.proofs.Undone.{given-few, undone-agreed, readied-ready}
-use Rattle.domain.proofs.Stores.{joined-length, joined-at}
+use Rattle.message.proofs.Stores.{joined-length, joined-at}
 use Rattle.domain.proofs.Ends.{ControllerFine, decision-after}
 use Rattle.domain.proofs.Messages.{acknowledgement-said, sealed-tagged, From, is-from, from-asked, not-from}
 

@@ -43,7 +43,7 @@ use Rattle.domain.specs.Premises.{Unforged}
 use Rattle.domain.specs.Premises as premises
 use Rattle.domain.proofs.View.{domainOf, viewSwitch, viewReply, said, messages, madeIn, madeSo, view, seen}
 use Rattle.domain.proofs.View.{acknowledgementSaid, isFrom, Seen}
-use Rattle.domain.proofs.Stores.{joined-length, joined-at}
+use Rattle.message.proofs.Stores.{joined-length, joined-at}
 use Rattle.domain.proofs.Shares.{share-view}
 use Rattle.domain.proofs.Ends.{SwitchFine}
 use Rattle.domain.proofs.Messages.{share-said, sealed-tagged, From, is-from, from-asked, not-from}

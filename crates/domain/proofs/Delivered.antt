@@ -40,7 +40,7 @@ use Rattle.domain.specs.Claim.{agreed}
 use Rattle.domain.specs.Rounds.{acknowledgementNow, shareNow}
 use Rattle.domain.proofs.Courses.{Fine, agreed-few}
 use Rattle.domain.proofs.View.{domainOf, viewController, isFrom, seen}
-use Rattle.domain.proofs.Stores.{joined-length, joined-at}
+use Rattle.message.proofs.Stores.{joined-length, joined-at}
 use Rattle.domain.proofs.Agreed.{change-fine}
 use Rattle.domain.proofs.Undone.{given-few, ready-readied}
 use Rattle.domain.proofs.Ends.{SwitchFine, ControllerFine}

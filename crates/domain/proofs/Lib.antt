@@ -1,7 +1,6 @@
 -- Laws of the whole run.
 pub mod Courses
 pub mod View
-pub mod Stores
 pub mod Agreed
 pub mod Shares
 pub mod Ends

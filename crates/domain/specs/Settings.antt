@@ -1,11 +1,11 @@
 -- What is fixed before a run (document 01, "Controller end", the run; the premises of demand 3). Assumes nothing.
 use mathlib.Core.Path.{_≡_}
 use mathlib.Core.Bool.{Bool, false}
-use mathlib.Core.List.{List, [], _++_}
-use Prim.Native.Nat.{ℕ, zero, suc, _-_, _/_, _≤_, _<_}
+use mathlib.Core.List.{List}
+use Prim.Native.Nat.{ℕ, _-_, _/_, _≤_, _<_}
 use lib.ListN.{length}
 use Rattle.lists.specs.Bytes.{AreBytes}
-use Rattle.message.specs.Keys.{keyLength}
+use Rattle.message.specs.Keys.{keyLength, joined}
 use Rattle.playbook.specs.Reading.{readWhole}
 use Rattle.playbook.specs.declared.Playbook.{Playbook}
 use Rattle.protocol.specs.Families.{countBelow}
@@ -43,11 +43,7 @@ playbook S = readWhole (S .book) .playbook
 abbrev pub Keeps : Setting → ℕ → Type 0
 Keeps S c = (c < S .n) × (S .strays c ≡ false)
 
--- the keys of the first n ends, one after another; a switch's key store, and a controller's
-unfoldable pub joined : (ℕ → List ℕ) → ℕ → List ℕ
-joined key zero = []
-joined key (suc n) = joined key n ++ key n
-
+-- a switch's key store, and a controller's
 abbrev pub switchKeys : Setting → ℕ → List ℕ
 switchKeys S s = joined (λ c. S .key c s) (S .n)
 

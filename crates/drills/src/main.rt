@@ -3,7 +3,6 @@
 // out the lines from document 01 alone.
 ghost use Prim.Native.Nat.{_≤_};
 use cases::action_of;
-use cases::byte_at;
 use cases::say;
 use cases::say_byte;
 use cases::say_hex;
@@ -17,6 +16,7 @@ use flow::Entry;
 use flow::Rule;
 use flow::Table;
 use libc::STDIN_FILENO;
+use lists::byte_at;
 use switch::Looked;
 use switch::Raised;
 use switch::Reply;

@@ -3,7 +3,6 @@
 // many bytes. tests/duties.py makes the cases, and works out the lines from document 01 alone.
 ghost use Prim.Native.Nat.{_≤_};
 use cases::action_of;
-use cases::byte_at;
 use cases::say;
 use cases::say_byte;
 use cases::say_hex;
@@ -19,6 +18,7 @@ use controller::Reply;
 use controller::Undone;
 use flow::Rule;
 use libc::STDIN_FILENO;
+use lists::byte_at;
 use playbook::Change;
 use playbook::Plan;
 use playbook::Playbook;

@@ -1,9 +1,9 @@
 // Definitions and laws of lists: arrays with a count as lists, tests of every element, different members, and numbers
-// as bytes. The crates above cite specs/ in their contracts and proofs/ in their proofs. The only code makes numbers of
-// bytes.
+// as bytes. The crates above cite specs/ in their contracts and proofs/ in their proofs. The only code reads bytes and
+// makes numbers of them.
 ghost use mathlib.Core.Path.{_≡_};
 ghost use mathlib.Core.List.{[], _∷_};
-ghost use Rattle.lists.specs.Bytes.{num};
+ghost use Rattle.lists.specs.Bytes.{num, byteAt};
 
 // The number of two bytes, the higher first.
 pub fn u16_of(a: u8, b: u8) -> u16
@@ -17,4 +17,11 @@ pub fn u32_of(a: u8, b: u8, c: u8, d: u8) -> u32
     ensures { λ r. ⌜ r ≡ num (a ∷ b ∷ c ∷ d ∷ []) ⌝ }
 {
     (u16_of(a, b) as u32) * 65536 + (u16_of(c, d) as u32)
+}
+
+// The byte at a place, 0 past the end.
+pub fn byte_at(s: &[u8], i: usize) -> u8
+    ensures { λ r. ⌜ r ≡ byteAt (now (s .entry)) i ⌝ }
+{
+    if i < s.len() { s[i] } else { 0 }
 }

@@ -4,4 +4,5 @@ pub mod Ends
 pub mod Lent
 pub mod Written
 pub mod Inverse
+pub mod Stores
 mod Frames

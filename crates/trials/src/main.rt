@@ -1,7 +1,6 @@
 // Runs the cases of standard input through message and playbook, and prints a line for each. A case is a letter, two
 // bytes of length and that many bytes. tests/trials.py makes the cases, and works out the lines from document 01 alone.
 use cases::action_of;
-use cases::byte_at;
 use cases::say;
 use cases::say_byte;
 use cases::say_hex;
@@ -13,6 +12,7 @@ use cases::u32_at;
 use flow::Action;
 use flow::Rule;
 use libc::STDIN_FILENO;
+use lists::byte_at;
 use message::End;
 use message::Message;
 use playbook::Change;

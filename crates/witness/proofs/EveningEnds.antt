@@ -50,7 +50,7 @@ use Rattle.protocol.specs.Families.{countBelow}
 use Rattle.domain.specs.Settings.{Valid, playbook, switchKeys, controllerKeys}
 use Rattle.domain.specs.Agreement.{agreedChanges}
 use Rattle.domain.proofs.Ends.{controller-set, controller-start}
-use Rattle.domain.proofs.Stores.{joined-length, joined-at}
+use Rattle.message.proofs.Stores.{joined-length, joined-at}
 use Rattle.witness.specs.Evening.{outage, evening, byPort, share}
 
 pub valid : Valid evening

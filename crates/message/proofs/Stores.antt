@@ -6,8 +6,7 @@ use native.Mathlib.Omega.{arith}
 use lib.ListN.{length, take, drop, length-append, length-drop}
 use lib.Seq.{take-all, take-append-le, drop-append-le, drop-at}
 use Rattle.answer.proofs.Bools.{by-eq}
-use Rattle.message.specs.Keys.{keyLength, keyAt}
-use Rattle.domain.specs.Settings.{joined}
+use Rattle.message.specs.Keys.{keyLength, keyAt, joined}
 
 module _ (key : ℕ → List ℕ) (long : (i : ℕ) → length (key i) ≡ keyLength) where
   pub joined-length : (n : ℕ) → length (joined key n) ≡ keyLength * n

@@ -3,8 +3,8 @@ use mathlib.Core.Path.{sym}
 use native.Mathlib.Omega.{arith}
 use borrow.Author.Needs.{needs}
 use lib.ListN.{List·getD-eq-default}
-use Rattle.cases.proofs.byte_at.Statement.{statement}
-use Rattle.cases.proofs.byte_at.Tie as tie
+use Rattle.lists.proofs.byte_at.Statement.{statement}
+use Rattle.lists.proofs.byte_at.Tie as tie
 
 returns-2 : tie.Need-returns-2
 returns-2 c =
