@@ -22,9 +22,10 @@ use Rattle.switch.specs.Slots.{quorumOf, slotFor, emptySlot, holds, agre
 use Rattle.switch.specs.States.{switchOk}
 use Rattle.switch.specs.Shares.{slotOf, stored}
 use Rattle.switch.specs.Receiving.{receivedBy}
-use Rattle.switch.specs.Raising.{withEvent, raisedBy}
+use Rattle.switch.specs.Raising.{nextEvent, withEvent, raisedBy}
 use Rattle.switch.specs.Lookups.{looked, lookedUp, numberOf}
 use Rattle.switch.specs.declared.Looked.the-variants.{Refused, Nothing, Port}
+use Rattle.switch.specs.declared.Raised.{Raised}
 use Rattle.switch.specs.declared.Reply.{Reply}
 use Rattle.switch.specs.declared.Slot.{Slot}
 use Rattle.switch.specs.declared.Stepped.{Stepped}
@@ -206,6 +207,16 @@ module _ (s : Switch) (x : ℕ) where
       reply-keeps (λ (r : Reply). (r .answer ≡ 0 → ⊥) → r .state ≡ s) _ _ _ (λ k n. refl)
       (λ y. reply-keeps (λ (r : Stepped). (r .answer ≡ 0 → ⊥) → withEvent s r .state ≡ s) _ _ _ (λ k n. refl)
       (λ l n. absurd (n refl)))
+
+  -- within its limits a switch raises its event as it is raised in place
+  pub raised-in-place : switchOk s ≡ true → raisedBy s x ≡ withEvent s (nextEvent (s .raised) x)
+  unfolding raisedBy
+  raised-in-place ok = asked _ _ 20 _ _ ok ∙ none-asked _ _
+
+-- refused, the event stays as it was
+pub event-refused : (e : Raised) (x : ℕ) → (nextEvent e x .answer ≡ 0 → ⊥) → nextEvent e x .raised ≡ e
+event-refused e x =
+    reply-keeps (λ (r : Stepped). (r .answer ≡ 0 → ⊥) → r .raised ≡ e) _ _ _ (λ k n. refl) (λ l n. absurd (n refl))
 
 -- what a lookup found is what flow's lookup found
 no-number : (f : Found) → numberOf (looked f) ≡ 0

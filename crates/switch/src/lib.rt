@@ -14,6 +14,7 @@ mod writing;
 
 pub use lookups::lookup;
 pub use raising::raise;
+pub use raising::raise_in_place;
 pub use receiving::receive;
 pub use slots::quorum;
 pub use states::setup;
@@ -57,7 +58,7 @@ pub enum Looked {
 }
 
 // What raising does to the last raised event: 0 and the next one, or a question's number and the event as it was.
-pub(crate) struct Stepped {
-    pub(crate) answer: u8,
-    pub(crate) raised: Raised,
+pub struct Stepped {
+    pub answer: u8,
+    pub raised: Raised,
 }

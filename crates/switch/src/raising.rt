@@ -29,6 +29,16 @@ fn next_event(r: Raised, cause: u8) -> Stepped
     }
 }
 
+// The same step, taken where the event stands: refused, it stays.
+pub fn raise_in_place(raised: &mut Raised, cause: u8) -> u8
+    ensures { λ r. ⌜ record { answer = r; raised = now (raised .exit) } ≡ nextEvent (now (raised .entry)) cause ⌝ }
+{
+    let event = *raised;
+    let step = next_event(event, cause);
+    *raised = step.raised;
+    step.answer
+}
+
 // Questions 20 and 27; then an event with this cause is the last raised one.
 pub fn raise(s: Switch, cause: u8) -> Reply
     ensures { λ r. ⌜ r ≡ raisedBy s cause ⌝ }
