@@ -110,13 +110,15 @@ class Switch:
         self.slots = [slot if slot and slot[0] > number else None for slot in self.slots]
         return 1
 
-    def raise_event(self, cause):
-        if not self.good():
-            return 20
+    def raise_in_place(self, cause):
+        """The event alone, of which only 27 is asked."""
         if self.serial >= LARGEST:
             return 27
         self.serial, self.cause = self.serial + 1, cause
         return 0
+
+    def raise_event(self, cause):
+        return self.raise_in_place(cause) if self.good() else 20
 
     def write(self, keys, event, length, controller, offset):
         frame = bytearray([0xEE]) * 48
@@ -184,6 +186,10 @@ class Drill(Calls):
     def raise_event(self, cause):
         self.case(b"R", bytes([cause]))
         return self.replied("raised", self.state.raise_event(cause))
+
+    def raise_in_place(self, cause):
+        self.case(b"I", bytes([cause]))
+        return self.replied("raised in place", self.state.raise_in_place(cause))
 
     def write(self, event, length, controller, offset):
         self.case(b"E" if event else b"A", struct.pack(">BBQ", length, controller, offset))
@@ -509,6 +515,24 @@ def writing(d):
     d.write(False, 48, 1, 3)
 
 
+def in_place(d):
+    """An event raised where it stands: from the first serial, and up to the largest, where it is left as it is."""
+    d.start(9, 4)
+    for cause in (255, 0):
+        d.raise_in_place(cause)
+    d.raise_event(7)
+    d.set_raised(LARGEST - 1, 9)
+    for cause in (10, 11):
+        d.raise_in_place(cause)
+    d.raise_event(12)
+    d.write(True, 48, 1, 3)
+    # no question of the state
+    d.set_n(0)
+    d.raise_in_place(13)
+    d.set_raised(0, 200)
+    d.raise_in_place(14)
+
+
 def at_random(d, seed, calls):
     """Calls of every kind, most of them shares that could pass, on few numbers and rules."""
     r = random.Random(seed)
@@ -518,7 +542,7 @@ def at_random(d, seed, calls):
     for _ in range(calls):
         what = r.randrange(20)
         if what == 0:
-            d.raise_event(r.randrange(256))
+            r.choice((d.raise_event, d.raise_in_place))(r.randrange(256))
         elif what == 1:
             d.write(r.randrange(2) == 0, r.randrange(20, 49), r.randrange(n + 1), r.randrange(26))
         elif what == 2:
@@ -535,7 +559,7 @@ def at_random(d, seed, calls):
 
 def drill(long):
     d = Drill(long)
-    for scene in (setups, questions, tables, lookups, agreement, evenings, limits, stores, writing):
+    for scene in (setups, questions, tables, lookups, agreement, evenings, limits, stores, writing, in_place):
         scene(d)
     for seed in d.some((), range(10)):
         at_random(d, seed, 80)

@@ -1,7 +1,9 @@
 // Runs the cases of standard input as calls at one switch, and prints a line for each: the answer and the whole state
 // afterwards. A case is a letter, two bytes of length and that many bytes. tests/drills.py makes the cases, and works
 // out the lines from document 01 alone.
+ghost use mathlib.Core.Path.{_≡_};
 ghost use Prim.Native.Nat.{_≤_};
+ghost use Rattle.switch.specs.Raising.{nextEvent};
 use cases::action_of;
 use cases::say;
 use cases::say_byte;
@@ -21,6 +23,7 @@ use switch::Looked;
 use switch::Raised;
 use switch::Reply;
 use switch::Slot;
+use switch::Stepped;
 use switch::Switch;
 
 // The longest key store here, one key more than a switch can have.
@@ -158,6 +161,37 @@ fn raise(d: Drill, s: &[u8]) -> Drill {
     let state = d.switch;
     say(b"raised");
     let next = replied(d, switch::raise(state, byte_at(s, 0)));
+    say(b"\n");
+    next
+}
+
+// An event is lent, raised in place and read again.
+fn raised_in_place(was: Raised, cause: u8) -> Stepped
+    ensures { λ r. ⌜ r ≡ nextEvent was cause ⌝ }
+{
+    let mut event = was;
+    let answer = switch::raise_in_place(&mut event, cause);
+    Stepped {
+        answer: answer,
+        raised: event,
+    }
+}
+
+// The switch's own event, raised in place: question 20 is not asked.
+fn raise_in_place(d: Drill, s: &[u8]) -> Drill {
+    let mut state = d.switch;
+    let was = state.raised;
+    let r = raised_in_place(was, byte_at(s, 0));
+    let event = r.raised;
+    state.raised = event;
+    say(b"raised in place");
+    let next = replied(
+        d,
+        Reply {
+            answer: r.answer,
+            state: state,
+        },
+    );
     say(b"\n");
     next
 }
@@ -325,6 +359,7 @@ fn run_case(d: Drill, letter: u8, s: &[u8]) -> Drill {
         b'K' => store_keys(d, s),
         b'M' => receive(d, keys, s),
         b'R' => raise(d, s),
+        b'I' => raise_in_place(d, s),
         b'E' => write(d, true, keys, s),
         b'A' => write(d, false, keys, s),
         b'L' => look_up(d, s),
