@@ -1,0 +1,4 @@
+-- That the marked edges hold.
+pub mod Shares
+pub mod Playbooks
+pub mod Theorem
