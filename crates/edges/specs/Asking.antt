@@ -20,8 +20,8 @@ use Rattle.switch.specs.Slots.{quorumOf}
 use Rattle.switch.specs.States.{setupOf}
 use Rattle.switch.specs.Receiving.{receivedBy}
 
--- what the edges leave open: the number of controllers, a switch with its key store, a controller that sends, the number
--- of a share, an action, any prefix, one above 0, and in a playbook the cause of a plan and the flow of a change
+-- what the edges leave open: the number of controllers, a switch with its key store, a controller that sends, a share's
+-- number, an action, any prefix, one above 0, and in a playbook the cause of a plan and the flow of a change
 pub record Open : Type 0 where
   pub n : ℕ
   pub switch : ℕ
