@@ -11,6 +11,8 @@ import random
 import struct
 import sys
 
+from paper import well_formed
+
 KEY = bytes([0x0B]) * 32
 
 
@@ -91,10 +93,6 @@ def write_case(length, offset, fields):
 
 
 # Playbooks
-
-def well_formed(prefix, length):
-    return length <= 32 and prefix % (1 << (32 - length)) == 0
-
 
 def read_first(s):
     """The number, the bytes used, the plans (switch, cause, first, count) and the changes."""
@@ -373,4 +371,5 @@ def main():
         print("cut case")
 
 
-main()
+if __name__ == "__main__":
+    main()
