@@ -1,5 +1,5 @@
-"""What the other scripts share: document 01's keys, tags and rules, and the cases of a test program with the lines it must
-print. Nothing here is taken from the crates."""
+"""What the other scripts share: document 01's keys, tags and rules, and the cases of a test program with the lines it
+must print. Nothing here is taken from the crates."""
 import hashlib
 import hmac
 import struct

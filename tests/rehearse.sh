@@ -125,8 +125,8 @@ ended $? 'the program does not end by itself when standard input is closed'
 
 # bin/rehearse
 
-# tried NAME STATUS EXPECTED SAYS COMMAND..: the command ends with the status, prints the file EXPECTED, and its standard
-# error matches the pattern SAYS, in one line where the status is 2.
+# tried NAME STATUS EXPECTED SAYS COMMAND..: the command ends with the status and prints the file EXPECTED; its standard
+# error matches the pattern SAYS, and is one line where the status is 2.
 tried() {
     name=$1 status=$2 expected=$3 says=$4
     shift 4
