@@ -7,6 +7,7 @@ pub mod Kept
 pub mod Listed
 pub mod Printed
 pub mod Exact
+pub mod Front
 pub mod Ranges
 mod Gathered
 mod Steps
