@@ -1,0 +1,78 @@
+-- Messages made and delivered with the keys of a rehearsal. Assumes nothing.
+use mathlib.Core.Path.{_≡_, refl, sym, ap, _∙_}
+use mathlib.Core.List.{List, [], _∷_}
+use Prim.Native.Nat.{ℕ, zero, suc, _*_, _≤_, _<_}
+use native.Mathlib.Omega.{arith}
+use lib.Dec.{eqb}
+use lib.ListN.{length, take, getD, replicate}
+use lib.Seq.{take-all, take-append-le}
+use Rattle.answer.specs.Ask.{pick}
+use Rattle.answer.proofs.Bools.{by-le}
+use Rattle.message.specs.Keys.{joined}
+use Rattle.message.specs.Layout.{shareLength, acknowledgementLength}
+use Rattle.message.proofs.Stores.{joined-length}
+use Rattle.switch.specs.Receiving as switch-receives
+use Rattle.switch.specs.Writing.{acknowledgementWritten}
+use Rattle.switch.specs.declared.Reply as switch
+use Rattle.switch.specs.declared.Switch.{Switch}
+use Rattle.controller.specs.States as controllers
+use Rattle.controller.specs.Receiving as controller-receives
+use Rattle.controller.specs.Writing.{shareWritten}
+use Rattle.controller.specs.declared.Reply as controller
+use Rattle.controller.specs.declared.Controller.{Controller}
+use Rattle.rehearsal.specs.Worlds.{keyOf, switchKeys, controllerKeys}
+use Rattle.rehearsal.specs.Steps.{delivered, shareMade, reported}
+use Rattle.rehearsal.specs.declared.Made.{Made}
+
+-- an element that is there, whatever stands where none is
+pub getD-any : {A : Type 0} (l : List A) (i : ℕ) (d e : A) → i < length l → getD l i d ≡ getD l i e
+getD-any [] i d e h = absurd (omega arith)
+getD-any (x ∷ l) zero d e h = refl
+getD-any (x ∷ l) (suc i) d e h = getD-any l i d e (omega arith)
+
+-- the first n keys of more
+keys-first : (key : ℕ → List ℕ) → ((i : ℕ) → length (key i) ≡ 32) → (n m : ℕ) → n ≤ m
+    → take (32 * n) (joined key m) ≡ joined key n
+unfolding joined
+keys-first key long zero zero h = refl
+keys-first key long (suc n) zero h = absurd (omega arith)
+keys-first key long n (suc m) h =
+    by-le n m
+    (λ below.
+    take-append-le (32 * n) (joined key m) (key m) (omega (arith, joined-length key long m))
+    ∙ keys-first key long n m below)
+    (λ above.
+    let e : n ≡ suc m = omega arith in
+    rw e (take-all (32 * suc m) (joined key (suc m)) (omega (arith, joined-length key long (suc m)))))
+
+-- sixteen keys, of which n are lent
+lent : (n to : ℕ) (keys : List ℕ) → n ≤ 16 → keys ≡ joined (λ (i : ℕ). keyOf i to) 16
+    → take (32 * n) keys ≡ switchKeys n to
+lent n to keys few e = rw e (keys-first (λ (i : ℕ). keyOf i to) (λ i. refl) n 16 few)
+
+pub delivered-by : (n to : ℕ) (s : Switch) (bytes : List ℕ) {keys : List ℕ} {r : switch.Reply} → n ≤ 16
+    → keys ≡ joined (λ (i : ℕ). keyOf i to) 16 → r ≡ switch-receives.receivedBy s (take (32 * n) keys) bytes
+    → r ≡ delivered n s to bytes
+delivered-by n to s bytes few e h = rw (← lent n to _ few e) h
+
+pub made-share : (c : Controller) (from to : ℕ) {keys : List ℕ} {r : controller.Reply} {frame : List ℕ}
+    → keys ≡ controllerKeys from → (r, frame) ≡ shareWritten c keys to (replicate shareLength 0) 0
+    → record { answer = r .answer; share = frame } ≡ shareMade c from to
+unfolding shareMade
+made-share c from to e h =
+    ap (λ (w : controller.Reply × List ℕ). record { answer = w .0 .answer; share = w .1 }) h ∙ rw e
+
+pub reported-by : (n from to : ℕ) (s : Switch) (c : Controller) {keys : List ℕ} {r : switch.Reply} {frame : List ℕ}
+    → n ≤ 16 → keys ≡ joined (λ (i : ℕ). keyOf i from) 16
+    → (r, frame) ≡ acknowledgementWritten s (take (32 * n) keys) to (replicate acknowledgementLength 0) 0
+    → reported n s c from to
+    ≡ pick (eqb (r .answer) 0) (controller-receives.receivedBy c (controllerKeys to) frame)
+    (controllers.unchanged c (r .answer))
+unfolding reported
+reported-by n from to s c {keys} few e h =
+    let written = rw (lent n from keys few e) at h in
+    ap
+    (λ (w : switch.Reply × List ℕ).
+    pick (eqb (w .0 .answer) 0) (controller-receives.receivedBy c (controllerKeys to) (w .1))
+    (controllers.unchanged c (w .0 .answer)))
+    (sym written)

@@ -1,0 +1,22 @@
+-- `print` meets its contract: the text is measured before it is put. Assumes nothing.
+use native.Mathlib.Omega.{arith}
+use borrow.Author.Needs.{needs}
+use Rattle.rehearsal.specs.Lines.{text, meaning}
+use Rattle.rehearsal.proofs.Putting.{not-printed, all-printed}
+use Rattle.rehearsal.proofs.printing.print.Statement.{statement}
+use Rattle.rehearsal.proofs.printing.print.Tie as tie
+
+returns : tie.Need-returns
+returns c =
+    let a = c .before .before .before .before .args in
+    not-printed (text (meaning (a .lines))) (a .out .now) (omega arith)
+
+returns-2 : tie.Need-returns-2
+returns-2 c =
+    let a = c .before .before .before .before .before .before .before .before .args in
+    all-printed (text (meaning (a .lines))) (a .out .now) (omega arith)
+    (c .before .before .before .before .before .text-width .ensures) (c .before .before .put-lines .ensures)
+
+pub print-spec : {M : Type 1} → statement M
+print-spec =
+    tie.close (tie.spec (λ c κs. search needs) returns (λ c κs. search needs) (λ c. search needs) returns-2)

@@ -1,0 +1,25 @@
+-- `rehearse` meets its contract: all lines are stored, and they are printed. Assumes nothing.
+use mathlib.Core.Path.{_≡_, sym, ap, _∙_}
+use native.Mathlib.Omega.{arith}
+use borrow.Author.Needs.{needs}
+use Rattle.rehearsal.specs.Lines.{meaning}
+use Rattle.rehearsal.specs.Scripts.{linesOf}
+use Rattle.rehearsal.specs.declared.Lines.{Lines}
+use Rattle.rehearsal.proofs.Room.{few-lines, meaning-stored}
+use Rattle.rehearsal.proofs.scripts.rehearse.Statement.{statement}
+use Rattle.rehearsal.proofs.scripts.rehearse.Tie as tie
+
+print-requires : tie.Need-print-requires
+print-requires c κs =
+    rw (ap (λ (l : Lines). l .count) (c .before .play .ensures)) (few-lines (c .before .before .before .before .args .input .now))
+
+returns : tie.Need-returns
+returns c =
+    let input = c .before .before .before .before .before .before .before .args .input .now in
+    let told = ap meaning (c .before .before .before .before .play .ensures) ∙ meaning-stored (linesOf input) (few-lines input) in
+    rw (← told) (c .before .before .print .ensures)
+
+pub rehearse-spec : {M : Type 1} → statement M
+rehearse-spec =
+    tie.close
+    (tie.spec (λ c κs. search needs) print-requires (λ c. search needs) returns)

@@ -1,0 +1,20 @@
+-- `send` meets its contract: the branch decides whether the share was made. Assumes nothing.
+use native.Mathlib.Omega.{arith}
+use borrow.Author.Needs.{needs}
+use borrow.Author.Tests.{eq-eqb, ne-eqb}
+use Rattle.rehearsal.specs.Steps.{sent}
+use Rattle.rehearsal.proofs.steps.send.Statement.{statement}
+use Rattle.rehearsal.proofs.steps.send.Tie as tie
+
+returns : tie.Need-returns
+unfolding sent
+returns c = rw (← c .before .before .make-share .ensures, ne-eqb (c .before .before .make-share .result .answer) 0 (c .if1 .taken))
+
+returns-2 : tie.Need-returns-2
+unfolding sent
+returns-2 c = rw (← c .before .before .before .before .before .make-share .ensures, eq-eqb (c .before .before .before .before .before .make-share .result .answer) 0 (omega arith)) (c .deliver .ensures)
+
+pub send-spec : {M : Type 1} → statement M
+send-spec =
+    tie.close
+    (tie.spec (λ c κs. search needs) returns (λ c. search needs) (λ c κs. search needs) returns-2)

@@ -1,0 +1,139 @@
+-- A script carried out record after record, and the whole input (document 01, "Rehearsal program"). Assumes nothing.
+use Prim.Native.Nat.{ℕ, zero, suc, _+_, _-_}
+use mathlib.Core.Bool.{Bool, true, _&&_}
+use mathlib.Core.List.{List, [], _∷_}
+use lib.ListN.{length, take, drop, getD, set}
+use lib.Dec.{ltb, leb, eqb}
+use Rattle.answer.specs.Ask.{Question, reply}
+use Rattle.lists.specs.Arrays.{pad}
+use Rattle.lists.specs.Bytes.{byteAt}
+use Rattle.playbook.specs.Books.{noPlans, storeOf}
+use Rattle.playbook.specs.Reading.{readFirst}
+use Rattle.playbook.specs.declared.Outcome.{Outcome}
+use Rattle.switch.specs.States as switches
+use Rattle.switch.specs.declared.Switch.{Switch}
+use Rattle.controller.specs.States as controllers
+use Rattle.controller.specs.declared.Controller.{Controller}
+use Rattle.rehearsal.specs.Lines.{text, printed}
+use Rattle.rehearsal.specs.Worlds.{emptyPlace, worldOf}
+use Rattle.rehearsal.specs.Records.{sizeOf, recordAt}
+use Rattle.rehearsal.specs.Steps.{carriedOut}
+use Rattle.rehearsal.specs.declared.Kind.{Kind}
+use Rattle.rehearsal.specs.declared.Kind.the-variants.{Decide, Send, Report, Raw, Keep, Deliver}
+use Rattle.rehearsal.specs.declared.Line.{Line}
+use Rattle.rehearsal.specs.declared.Lines.{Lines}
+use Rattle.rehearsal.specs.declared.Moved.{Moved}
+use Rattle.rehearsal.specs.declared.Next.{Next}
+use Rattle.rehearsal.specs.declared.Next.the-variants.{Found, Refused}
+use Rattle.rehearsal.specs.declared.Place.{Place}
+use Rattle.rehearsal.specs.declared.Printed.{Printed}
+use Rattle.rehearsal.specs.declared.Record.{Record}
+use Rattle.rehearsal.specs.declared.World.{World}
+
+-- what stands where a world has nothing
+abbrev pub noSwitch : Switch
+noSwitch = switches.fresh 0 0
+
+abbrev pub noController : Controller
+noController = controllers.fresh 0 0 (storeOf noPlans)
+
+-- the place that a record names
+abbrev pub placeOf : World → Record → Place
+placeOf w r = getD (w .places) (r .place) emptyPlace
+
+-- the number of the switch that a record is about: a kept share has its own
+abbrev pub switchOf : Kind → Record → Place → ℕ
+switchOf Decide r p = r .switch
+switchOf Send r p = r .switch
+switchOf Report r p = r .switch
+switchOf Raw r p = r .switch
+switchOf Keep r p = r .switch
+switchOf Deliver r p = p .switch
+
+-- what is asked before anything is made or delivered: ids in the domain? A place at most 63? A kept share? What a kind
+-- has not passes as 0
+abbrev pub recordQuestions : ℕ → Record → Place → List Question
+recordQuestions n r p =
+    (12, ltb (r .controller) n && ltb (r .switch) 16)
+    ∷ (29, ltb (r .place) 64)
+    ∷ (26, ltb (switchOf (r .kind) r p) 16)
+    ∷ []
+
+-- the controller, the switch and the place with these numbers put into a world
+abbrev pub withEnds : World → ℕ → ℕ → ℕ → Moved → World
+withEnds w c s p m = record {
+  n = w .n;
+  switches = set (w .switches) s (m .switch);
+  controllers = set (w .controllers) c (m .controller);
+  places = set (w .places) p (m .place);
+}
+
+-- what a record that passed its questions does to the ends and the place that it names, taken out of a world
+abbrev pub carriedIn : World → Record → List ℕ → Moved
+carriedIn w r bytes =
+    carriedOut (getD (w .controllers) (r .controller) noController)
+    (getD (w .switches) (switchOf (r .kind) r (placeOf w r)) noSwitch) (placeOf w r) (w .n) (r .kind) r bytes
+
+abbrev pub worldAfter : World → Record → List ℕ → World
+worldAfter w r bytes =
+    withEnds w (r .controller) (switchOf (r .kind) r (placeOf w r)) (r .place) (carriedIn w r bytes)
+
+-- a line, and the lines after it
+abbrev pub lineOf : ℕ → ℕ → ℕ → Line
+lineOf k answer figure = record { ordinal = k; answer = answer; figure = figure }
+
+-- the line of the record with an ordinal, and the lines that follow from the world after it: the figure is 0 where the
+-- record is refused before anything is made or delivered, and the world stays
+abbrev pub recordLines : World → ℕ → Record → List ℕ → (World → List Line) → List Line
+recordLines w k r bytes rest =
+    reply (recordQuestions (w .n) r (placeOf w r)) (λ q. lineOf k q 0 ∷ rest w)
+    (lineOf k (carriedIn w r bytes .answer) (carriedIn w r bytes .figure) ∷ rest (worldAfter w r bytes))
+
+-- what stands at the front of a script: bytes that are refused print their line, and the run stops
+abbrev pub nextLines : World → ℕ → Next → List ℕ → (ℕ → World → List Line) → List Line
+nextLines w k (Refused q) b on = lineOf k q 0 ∷ []
+nextLines w k (Found r) b on = recordLines w k r (take (sizeOf (r .kind)) b) (on (sizeOf (r .kind) - 1))
+
+-- byte after byte: `skip` bytes of the record at hand are still to pass, k is the ordinal of the next record
+unfoldable pub linesFrom : ℕ → List ℕ → ℕ → World → List Line
+linesFrom skip [] k w = []
+linesFrom (suc skip) (x ∷ xs) k w = linesFrom skip xs k w
+linesFrom zero (x ∷ xs) k w =
+    nextLines w k (recordAt (x ∷ xs)) (x ∷ xs) (λ skip next. linesFrom skip xs (k + 1) next)
+
+-- an input: a byte n, a playbook up to its end record, and a script
+abbrev pub controllersIn : List ℕ → ℕ
+controllersIn input = byteAt input 0
+
+abbrev pub bookIn : List ℕ → Outcome
+bookIn input = readFirst (drop 1 input)
+
+abbrev pub scriptIn : List ℕ → List ℕ
+scriptIn input = drop (bookIn input .used) (drop 1 input)
+
+-- what is asked of it: a first byte? From 1 to 16 controllers? The playbook's own questions. A script of at most 8,192
+-- bytes?
+abbrev pub inputQuestions : List ℕ → List Question
+inputQuestions input =
+    (30, ltb 0 (length input))
+    ∷ (20, leb 1 (controllersIn input) && leb (controllersIn input) 16)
+    ∷ (bookIn input .answer, eqb (bookIn input .answer) 0)
+    ∷ (28, leb (length (scriptIn input)) 8192)
+    ∷ []
+
+-- its lines; a fault before the script is the only one
+unfoldable pub linesOf : List ℕ → List Line
+linesOf input =
+    reply (inputQuestions input) (λ q. lineOf 0 q 0 ∷ [])
+    (linesFrom 0 (scriptIn input) 1 (worldOf (controllersIn input) (bookIn input .playbook)))
+
+-- the rehearsal of an input, printed to an output
+abbrev pub rehearsed : List ℕ → List ℕ → Printed × List ℕ
+rehearsed input out = printed (text (linesOf input)) out
+
+-- lines in the places of an array
+abbrev pub noLine : Line
+noLine = lineOf 0 0 0
+
+abbrev pub linesStored : List Line → Lines
+linesStored ls = record { places = pad 4096 noLine ls; count = length ls }

@@ -1,0 +1,41 @@
+-- The world of a rehearsal (document 01, "Rehearsal program"): its keys, its ends and its places. Assumes nothing.
+use Prim.Native.Nat.{ℕ, zero, suc}
+use mathlib.Core.List.{List, [], _∷_, _++_}
+use lib.ListN.{replicate}
+use Rattle.message.specs.Keys.{joined}
+use Rattle.message.specs.Layout.{shareLength}
+use Rattle.playbook.specs.declared.Playbook.{Playbook}
+use Rattle.switch.specs.States as switch
+use Rattle.controller.specs.States as controller
+use Rattle.rehearsal.specs.declared.Place.{Place}
+use Rattle.rehearsal.specs.declared.World.{World}
+
+-- the key of controller c and switch s
+abbrev pub keyOf : ℕ → ℕ → List ℕ
+keyOf c s = c ∷ s ∷ replicate 30 0
+
+-- the key store of switch s among n controllers, and that of controller c
+abbrev pub switchKeys : ℕ → ℕ → List ℕ
+switchKeys n s = joined (λ c. keyOf c s) n
+
+abbrev pub controllerKeys : ℕ → List ℕ
+controllerKeys c = joined (keyOf c) 16
+
+-- a place with nothing in it: no kept share is for a switch past the last one
+abbrev pub emptyPlace : Place
+emptyPlace = record { switch = 16; share = replicate shareLength 0 }
+
+-- the things with the first n numbers
+unfoldable pub each : {A : Type 0} → (ℕ → A) → ℕ → List A
+each f zero = []
+each f (suc n) = each f n ++ f n ∷ []
+
+-- all ends as their setups leave them, and all places empty; controllers n and above are refused setups, which no
+-- record reaches
+abbrev pub worldOf : ℕ → Playbook → World
+worldOf n p = record {
+  n = n;
+  switches = each (λ s. switch.setupOf s n .state) 16;
+  controllers = each (λ c. controller.setupOf c n p .state) 16;
+  places = replicate 64 emptyPlace;
+}

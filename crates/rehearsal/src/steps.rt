@@ -1,0 +1,183 @@
+// One record carried out on the controller, the switch and the place that it names.
+ghost use mathlib.Core.Path.{_≡_};
+ghost use Prim.Native.Nat.{_≤_};
+ghost use lib.ListN.{length};
+ghost use Rattle.controller.specs.Changes.{meaning};
+ghost use Rattle.rehearsal.specs.Steps.{delivered, shareMade, sent, reported, kept};
+ghost use Rattle.rehearsal.specs.Steps.{byController, bySwitch, byPlace, carriedOut};
+use crate::Kind;
+use crate::Made;
+use crate::Moved;
+use crate::Place;
+use crate::Record;
+use crate::keys::controller_keys;
+use crate::keys::switch_keys;
+use controller::Controller;
+use controller::Held;
+use switch::Switch;
+
+// Bytes delivered to a switch.
+fn deliver(n: u8, s: Switch, switch: u8, bytes: &[u8]) -> switch::Reply
+    requires { ⌜ n ≤ 16 ⌝ }
+    ensures { λ r. ⌜ r ≡ delivered n s switch (now (bytes .entry)) ⌝ }
+{
+    let keys = switch_keys(switch);
+    let used = message::keys::LENGTH * (n as usize);
+    switch::receive(s, &keys[..used], bytes)
+}
+
+// The current share of a controller for a switch.
+fn make_share(c: Controller, controller: u8, switch: u8) -> Made
+    ensures { λ r. ⌜ r ≡ shareMade c controller switch ⌝ }
+{
+    let keys = controller_keys(controller);
+    let mut share = [0u8; message::layout::SHARE_LENGTH];
+    let r = controller::write_share(c, &keys, switch, &mut share, 0);
+    Made {
+        answer: r.answer,
+        share: share,
+    }
+}
+
+// A share made and delivered.
+fn send(n: u8, c: Controller, s: Switch, controller: u8, switch: u8) -> switch::Reply
+    requires { ⌜ n ≤ 16 ⌝ }
+    ensures { λ r. ⌜ r ≡ sent n c s controller switch ⌝ }
+{
+    let made = make_share(c, controller, switch);
+    if made.answer != answer::DONE {
+        return switch::Reply {
+            answer: made.answer,
+            state: s,
+        };
+    }
+    let share = made.share;
+    deliver(n, s, switch, &share)
+}
+
+// An acknowledgement made and delivered.
+fn report(n: u8, s: Switch, c: Controller, switch: u8, controller: u8) -> controller::Reply
+    requires { ⌜ n ≤ 16 ⌝ }
+    ensures { λ r. ⌜ r ≡ reported n s c switch controller ⌝ }
+{
+    let keys = switch_keys(switch);
+    let used = message::keys::LENGTH * (n as usize);
+    let mut frame = [0u8; message::layout::ACKNOWLEDGEMENT_LENGTH];
+    let r = switch::write_acknowledgement(s, &keys[..used], controller, &mut frame, 0);
+    if r.answer != answer::DONE {
+        return controller::Reply {
+            answer: r.answer,
+            offer: controller::Offer::Nothing,
+            state: c,
+        };
+    }
+    let keys = controller_keys(controller);
+    controller::receive(c, &keys, &frame)
+}
+
+// A share that was made, stored; a refused one leaves the place.
+fn keep(made: Made, switch: u8, place: Place) -> Place
+    ensures { λ r. ⌜ r ≡ kept made switch place ⌝ }
+{
+    if made.answer != answer::DONE {
+        return place;
+    }
+    let share = made.share;
+    Place {
+        switch: switch,
+        share: share,
+    }
+}
+
+// How many undone changes there are: as many as are counted, where there are places for them.
+fn undone_in(h: Held) -> u32
+    ensures { λ r. ⌜ r ≡ length (meaning h) ⌝ }
+{
+    if h.count <= 64 { h.count as u32 } else { 64 }
+}
+
+// The controller replied; the figure is how many changes it has undone.
+fn by_controller(c: Controller, s: Switch, place: Place, r: controller::Reply) -> Moved
+    ensures { λ m. ⌜ m ≡ byController c s place r ⌝ }
+{
+    let state = r.state;
+    let undone = state.undone;
+    let figure = undone_in(undone);
+    Moved {
+        answer: r.answer,
+        figure: figure,
+        controller: state,
+        switch: s,
+        place: place,
+    }
+}
+
+// The switch replied; the figure is its last applied number.
+fn by_switch(c: Controller, s: Switch, place: Place, r: switch::Reply) -> Moved
+    ensures { λ m. ⌜ m ≡ bySwitch c s place r ⌝ }
+{
+    let state = r.state;
+    Moved {
+        answer: r.answer,
+        figure: state.last,
+        controller: c,
+        switch: state,
+        place: place,
+    }
+}
+
+// A share was made for the place.
+fn by_place(c: Controller, s: Switch, place: Place, made: Made, switch: u8) -> Moved
+    ensures { λ m. ⌜ m ≡ byPlace c s place made switch ⌝ }
+{
+    let place = keep(made, switch, place);
+    Moved {
+        answer: made.answer,
+        figure: s.last,
+        controller: c,
+        switch: s,
+        place: place,
+    }
+}
+
+// A record carried out, with its bytes and what it names.
+pub(crate) fn carry_out(
+    n: u8,
+    c: Controller,
+    s: Switch,
+    place: Place,
+    r: Record,
+    bytes: &[u8],
+) -> Moved
+    requires { ⌜ (n ≤ 16) × (2 ≤ length (now bytes)) ⌝ }
+    ensures { λ m. ⌜ m ≡ carriedOut c s place n (r .kind) r (now (bytes .entry)) ⌝ }
+{
+    let kind = r.kind;
+    match kind {
+        Kind::Decide => {
+            let reply = controller::decide(c, r.switch, r.serial, r.cause);
+            by_controller(c, s, place, reply)
+        }
+        Kind::Send => {
+            let reply = send(n, c, s, r.controller, r.switch);
+            by_switch(c, s, place, reply)
+        }
+        Kind::Report => {
+            let reply = report(n, s, c, r.switch, r.controller);
+            by_controller(c, s, place, reply)
+        }
+        Kind::Raw => {
+            let reply = deliver(n, s, r.switch, &bytes[2..]);
+            by_switch(c, s, place, reply)
+        }
+        Kind::Keep => {
+            let made = make_share(c, r.controller, r.switch);
+            by_place(c, s, place, made, r.switch)
+        }
+        Kind::Deliver => {
+            let share = place.share;
+            let reply = deliver(n, s, place.switch, &share);
+            by_switch(c, s, place, reply)
+        }
+    }
+}

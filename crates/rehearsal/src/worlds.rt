@@ -1,0 +1,66 @@
+// The world before a script: all ends as their setups leave them, and all places empty.
+ghost use mathlib.Core.Path.{_≡_};
+ghost use Rattle.switch.specs.States as switches;
+ghost use Rattle.controller.specs.States as controllers;
+ghost use Rattle.rehearsal.specs.Worlds.{each, emptyPlace, worldOf};
+use crate::Place;
+use crate::World;
+use crate::limits;
+use controller::Controller;
+use playbook::Playbook;
+use switch::Switch;
+
+fn switches_of(n: u8) -> [Switch; limits::SWITCHES]
+    ensures { λ r. ⌜ r ≡ each (λ s. switches.setupOf s n .state) 16 ⌝ }
+{
+    let first = switch::setup(0, n);
+    let s = first.state;
+    let mut out = [s; limits::SWITCHES];
+    let mut i: u8 = 0;
+    while i < 16 {
+        let r = switch::setup(i, n);
+        let state = r.state;
+        out[i as usize] = state;
+        i += 1;
+    }
+    out
+}
+
+fn controllers_of(n: u8, p: Playbook) -> [Controller; limits::CONTROLLERS]
+    ensures { λ r. ⌜ r ≡ each (λ c. controllers.setupOf c n p .state) 16 ⌝ }
+{
+    let first = controller::setup(0, n, p);
+    let c = first.state;
+    let mut out = [c; limits::CONTROLLERS];
+    let mut i: u8 = 0;
+    while i < 16 {
+        let r = controller::setup(i, n, p);
+        let state = r.state;
+        out[i as usize] = state;
+        i += 1;
+    }
+    out
+}
+
+pub(crate) fn empty_place() -> Place
+    ensures { λ r. ⌜ r ≡ emptyPlace ⌝ }
+{
+    Place {
+        switch: 16,
+        share: [0u8; message::layout::SHARE_LENGTH],
+    }
+}
+
+pub(crate) fn world_of(n: u8, p: Playbook) -> World
+    ensures { λ r. ⌜ r ≡ worldOf n p ⌝ }
+{
+    let switches = switches_of(n);
+    let controllers = controllers_of(n, p);
+    let none = empty_place();
+    World {
+        n: n,
+        switches: switches,
+        controllers: controllers,
+        places: [none; limits::PLACES],
+    }
+}
