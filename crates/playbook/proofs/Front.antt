@@ -1,7 +1,7 @@
 -- What reading looks at: it uses no more bytes than there are, and none past the longest playbook and one record.
 -- Assumes nothing.
-use mathlib.Core.Path.{_≡_, refl, sym, ap, _∙_}
-use mathlib.Core.Bool.{Bool, true, false}
+use mathlib.Core.Path.{_≡_, refl, sym, _∙_}
+use mathlib.Core.Bool.{true}
 use mathlib.Core.List.{List, [], _∷_}
 use Prim.Native.Nat.{ℕ, zero, suc, _+_, _-_, _*_, _≤_, _<_}
 use native.Mathlib.Omega.{arith}
@@ -9,14 +9,13 @@ use borrow.Author.Tests.{le-leb, lt-leb}
 use lib.Dec.{leb, eqb}
 use lib.ListN.{length, take, length-append, length-take}
 use lib.Seq.{getD-take, take-nil}
-use Rattle.answer.specs.Ask.{Question, pick, reply, firstNo}
 use Rattle.answer.proofs.Asked.{reply-keeps, reply-same}
 use Rattle.answer.proofs.Bools.{by-bool, by-le}
 use Rattle.lists.specs.Bytes.{byteAt, field}
 use Rattle.lists.proofs.Stores.{part-within}
 use Rattle.playbook.specs.Limits.{planKind, changeKind, planSize, changeSize}
-use Rattle.playbook.specs.Books.{Book, noPlans, planQuestions, changeQuestions, withPlan, withChange}
-use Rattle.playbook.specs.Records.{isKind, sizeOf, recordOf, recordAt}
+use Rattle.playbook.specs.Books.{Book, noPlans, planQuestions, changeQuestions}
+use Rattle.playbook.specs.Records.{sizeOf, recordOf, recordAt}
 use Rattle.playbook.specs.Reading.{refusal, finished, follow, readFrom, readFirst}
 use Rattle.playbook.specs.Storing.{bookOk}
 use Rattle.playbook.specs.declared.Outcome.{Outcome}

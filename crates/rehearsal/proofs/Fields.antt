@@ -1,9 +1,8 @@
 -- The fields of a script's records, kind by kind. Assumes nothing.
 use mathlib.Core.Path.{_≡_, sym, ap, _∙_}
-use mathlib.Core.Bool.{Bool, false, _&&_}
+use mathlib.Core.Bool.{false}
 use mathlib.Core.List.{List}
 use Prim.Native.Nat.{ℕ, _≤_, _<_}
-use native.Mathlib.Omega.{arith}
 use borrow.Author.Tests.{le-leb, lt-leb}
 use lib.Dec.{leb}
 use lib.ListN.{length}
@@ -30,7 +29,9 @@ unknown b h = sym (refused Refused _ 31 _ _ other)
     other : isKind (byteAt b 0) ≡ false
     other =
         by-le 33 (byteAt b 0)
-        (λ low. by-le (byteAt b 0) 38 (λ high. absurd (h low high)) (λ high. rw (le-leb 33 (byteAt b 0) low, lt-leb (byteAt b 0) 38 high)))
+        (λ low.
+        by-le (byteAt b 0) 38 (λ high. absurd (h low high))
+        (λ high. rw (le-leb 33 (byteAt b 0) low, lt-leb (byteAt b 0) 38 high)))
         (λ low. rw (lt-leb 33 (byteAt b 0) low))
 
 module _ (b : List ℕ) (low : 33 ≤ byteAt b 0) (high : byteAt b 0 ≤ 38) {kind : Kind} (is : kind ≡ kindOf (byteAt b 0))
@@ -39,7 +40,8 @@ module _ (b : List ℕ) (low : 33 ≤ byteAt b 0) (high : byteAt b 0 ≤ 38) {ki
   unfolding recordAt
   cut h =
       let here = and-join (leb 33 (byteAt b 0)) (leb (byteAt b 0) 38) (le-leb _ _ low) (le-leb _ _ high) in
-      sym (asked Refused _ 31 _ _ here ∙ refused Refused _ 30 _ _ (lt-leb (sizeOf (kindOf (byteAt b 0))) (length b) (rw (← is, ← long) h)))
+      sym (asked Refused _ 31 _ _ here
+      ∙ refused Refused _ 30 _ _ (lt-leb (sizeOf (kindOf (byteAt b 0))) (length b) (rw (← is, ← long) h)))
 
   pub found : size ≤ length b → {r : Record} → r ≡ recordOf kind b → Found r ≡ recordAt b
   unfolding recordAt

@@ -18,7 +18,8 @@ use Rattle.rehearsal.specs.declared.Lines.{Lines}
 use Rattle.rehearsal.specs.declared.World.{World}
 
 module _ (input : List ℕ) where
-  pub no-input : length input ≤ 0 → {ls : Lines} → ls ≡ linesStored (lineOf 0 30 0 ∷ []) → ls ≡ linesStored (linesOf input)
+  pub no-input : length input ≤ 0 → {ls : Lines} → ls ≡ linesStored (lineOf 0 30 0 ∷ [])
+      → ls ≡ linesStored (linesOf input)
   unfolding linesOf
   no-input none is = is ∙ ap linesStored (sym (refused _ _ 30 _ _ (le-ltb 0 (length input) none)))
 

@@ -5,6 +5,7 @@ pub mod Decimals
 pub mod Texts
 pub mod Room
 pub mod Cut
+pub mod Named
 mod Fields
 mod Inputs
 mod Making

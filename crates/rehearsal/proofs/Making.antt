@@ -22,7 +22,6 @@ use Rattle.controller.specs.declared.Reply as controller
 use Rattle.controller.specs.declared.Controller.{Controller}
 use Rattle.rehearsal.specs.Worlds.{keyOf, switchKeys, controllerKeys}
 use Rattle.rehearsal.specs.Steps.{delivered, shareMade, reported}
-use Rattle.rehearsal.specs.declared.Made.{Made}
 
 -- an element that is there, whatever stands where none is
 pub getD-any : {A : Type 0} (l : List A) (i : ℕ) (d e : A) → i < length l → getD l i d ≡ getD l i e

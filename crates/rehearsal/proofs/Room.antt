@@ -62,7 +62,9 @@ unfolding linesOf
 few-lines input =
     fourth (λ (ls : List Line). length ls ≤ 4096) _ _ _ _ _ _ _ _ _ (leb (length (scriptIn input)) 8192)
     (λ q. omega arith)
-    (λ short. omega (arith, lines-few 0 (scriptIn input) 1 (worldOf (controllersIn input) (bookIn input .playbook)), leb-true (length (scriptIn input)) 8192 short))
+    (λ short.
+    let world = worldOf (controllersIn input) (bookIn input .playbook) in
+    omega (arith, lines-few 0 (scriptIn input) 1 world, leb-true (length (scriptIn input)) 8192 short))
 
 -- the lines that are stored
 pub meaning-stored : (ls : List Line) → length ls ≤ 4096 → meaning (linesStored ls) ≡ ls

@@ -2,11 +2,11 @@
 -- Assumes nothing.
 use mathlib.Core.Path.{_≡_, refl, sym, ap, _∙_}
 use mathlib.Core.List.{List, [], _∷_, _++_, append-assoc, append-nil}
-use Prim.Native.Nat.{ℕ, zero, suc, _+_, _-_, _*_, _≤_, _<_}
+use Prim.Native.Nat.{ℕ, zero, suc, _+_, _-_, _*_, _<_}
 use native.Mathlib.Numerals.{add-one}
 use native.Mathlib.Omega.{arith}
 use lib.ListN.{length, take, drop, set, getD, replicate, length-append, replicate-append-replicate, List·getD-append}
-use lib.Seq.{set-at, getD-at, take-at}
+use lib.Seq.{set-at, getD-at}
 use Rattle.answer.proofs.Bools.{by-eq}
 use Rattle.lists.proofs.Stores.{stored-whole}
 use Rattle.message.specs.Keys.{joined}

@@ -1,6 +1,5 @@
 -- A script past a record: the record's line, and what is left to tell behind it. Assumes nothing.
 use mathlib.Core.Path.{_≡_, refl, sym, ap, _∙_}
-use mathlib.Core.Bool.{Bool, true, false}
 use mathlib.Core.List.{List, [], _∷_, _++_, append-assoc, append-nil}
 use Prim.Native.Nat.{ℕ, zero, suc, _+_, _-_, _*_, _≤_, _<_}
 use native.Mathlib.Numerals.{add-one}
@@ -9,7 +8,7 @@ use borrow.Author.Tests.{leb-true, ltb-true}
 use lib.Dec.{leb, ltb}
 use lib.ListN.{length, take, drop, set, getD, replicate, length-append, length-drop, length-set, drop-of-length-le}
 use lib.Seq.{drop-drop, length-take-le, take-suc-set}
-use Rattle.answer.specs.Ask.{Question, reply, firstNo}
+use Rattle.answer.specs.Ask.{Question, firstNo}
 use Rattle.answer.proofs.Bools.{and-parts}
 use Rattle.answer.proofs.Asked.{reply-keeps, answered, all-yes, some-no}
 use Rattle.lists.specs.Arrays.{pad}
@@ -20,12 +19,11 @@ use Rattle.rehearsal.specs.Records.{isKind, kindOf, sizeOf, recordOf, re
 use Rattle.switch.specs.declared.Switch.{Switch}
 use Rattle.controller.specs.declared.Controller.{Controller}
 use Rattle.rehearsal.specs.Steps.{carriedOut}
-use Rattle.rehearsal.specs.Scripts.{noSwitch, noController, placeOf, switchOf, recordQuestions, withEnds, carriedIn}
-use Rattle.rehearsal.specs.Scripts.{worldAfter, lineOf, nextLines, linesFrom, noLine, linesStored}
+use Rattle.rehearsal.specs.Scripts.{noSwitch, noController, placeOf, switchOf, recordQuestions, withEnds}
+use Rattle.rehearsal.specs.Scripts.{carriedIn, worldAfter, lineOf, nextLines, linesFrom, noLine, linesStored}
 use Rattle.rehearsal.specs.declared.Kind.{Kind}
 use Rattle.rehearsal.specs.declared.Kind.the-variants.{Decide, Send, Report, Raw, Keep, Deliver}
 use Rattle.rehearsal.specs.declared.Line.{Line}
-use Rattle.rehearsal.specs.declared.Lines.{Lines}
 use Rattle.rehearsal.specs.declared.Moved.{Moved}
 use Rattle.rehearsal.specs.declared.Next.{Next}
 use Rattle.rehearsal.specs.declared.Next.the-variants.{Found, Refused}
@@ -201,7 +199,8 @@ module _ (s : List ℕ) (before w : World) (places : List Line) (count at : ℕ)
         ∙ rw (
           lent,
           which,
-          getD-any (w .controllers) (r .controller) c noController (omega (arith, names .controller, so-far .controllers)),
+          getD-any (w .controllers) (r .controller) c noController
+              (omega (arith, names .controller, so-far .controllers)),
           getD-any (w .switches) (switchOf (r .kind) r p) t noSwitch (omega (arith, names .switch, so-far .switches)),
           there,
         ) in
@@ -252,4 +251,5 @@ pub one-line : (q : ℕ)
     → record { places = set (replicate 4096 noLine) 0 (lineOf 0 q 0); count = 1 } ≡ linesStored (lineOf 0 q 0 ∷ [])
 one-line q =
     ap (λ (p : List Line). record { places = p; count = 1 })
-    (ap (λ (p : List Line). set p 0 (lineOf 0 q 0)) (sym (pad-none 4096 noLine)) ∙ pad-snoc 4096 noLine [] (lineOf 0 q 0))
+    (ap (λ (p : List Line). set p 0 (lineOf 0 q 0)) (sym (pad-none 4096 noLine))
+    ∙ pad-snoc 4096 noLine [] (lineOf 0 q 0))

@@ -1,6 +1,6 @@
 -- A script carried out record after record, and the whole input (document 01, "Rehearsal program"). Assumes nothing.
 use Prim.Native.Nat.{ℕ, zero, suc, _+_, _-_}
-use mathlib.Core.Bool.{Bool, true, _&&_}
+use mathlib.Core.Bool.{_&&_}
 use mathlib.Core.List.{List, [], _∷_}
 use lib.ListN.{length, take, drop, getD, set}
 use lib.Dec.{ltb, leb, eqb}
@@ -78,7 +78,7 @@ abbrev pub worldAfter : World → Record → List ℕ → World
 worldAfter w r bytes =
     withEnds w (r .controller) (switchOf (r .kind) r (placeOf w r)) (r .place) (carriedIn w r bytes)
 
--- a line, and the lines after it
+-- a line
 abbrev pub lineOf : ℕ → ℕ → ℕ → Line
 lineOf k answer figure = record { ordinal = k; answer = answer; figure = figure }
 

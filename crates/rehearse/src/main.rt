@@ -4,8 +4,8 @@ ghost use lib.ListN.{length};
 use libc::STDIN_FILENO;
 use libc::STDOUT_FILENO;
 
-// The longest input that can be rehearsed has 13,506 bytes: a byte n, a playbook of 5,313 and a script of 8,192. One byte
-// further tells a longer one.
+// The longest input that can be rehearsed has 13,506 bytes: a byte n, a playbook of 5,313 and a script of 8,192. One
+// byte further tells a longer one: its lines are those of all its bytes.
 const INPUT: usize = 13507;
 // No input prints more than 4,096 lines of 33 bytes.
 const OUTPUT: usize = 135168;
