@@ -7,6 +7,7 @@ pub mod Room
 pub mod Cut
 pub mod Named
 mod Fields
+mod Filling
 mod Inputs
 mod Making
 mod Putting

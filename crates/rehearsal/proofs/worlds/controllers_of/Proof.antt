@@ -1,21 +1,17 @@
--- `controllers_of` meets its contract. The loop's invariant: the first i are set up, each with its own id. Assumes nothing.
-use mathlib.Core.Path.{_≡_, refl, sym, ap, _∙_}
-use mathlib.Core.List.{_++_}
-use Prim.Native.Nat.{ℕ, _-_, _≤_}
+-- `controllers_of` meets its contract. The loop's invariant: the controllers before i are set up, each with its own id.
+-- Assumes nothing.
+use mathlib.Core.Path.{refl, ap}
+use Prim.Native.Nat.{ℕ, _-_}
 use native.Mathlib.Omega.{arith}
 use borrow.Author.Needs.{needs}
-use lib.ListN.{length, take, drop}
-use Rattle.controller.specs.States as controllers
+use Rattle.controller.specs.States.{setupOf}
 use Rattle.controller.specs.declared.Reply.{Reply}
-use Rattle.lists.proofs.Stores.{store}
-use Rattle.rehearsal.specs.Worlds.{each}
-use Rattle.rehearsal.specs.Scripts.{noController}
-use Rattle.rehearsal.proofs.Stores.{each-length, each-at, all-placed}
+use Rattle.rehearsal.proofs.Filling.{PlacedBefore, next-placed, last-placed}
 use Rattle.rehearsal.proofs.worlds.controllers_of.Statement.{statement}
 use Rattle.rehearsal.proofs.worlds.controllers_of.Tie as tie
 
 abbrev Inv-loop : tie.InvT-loop
-Inv-loop n p out₀ i₀ out i = (i ≤ 16) × (out ≡ take i (each (λ (i : ℕ). controllers.setupOf i n p .state) 16) ++ drop i out₀) × (length out₀ ≡ 16)
+Inv-loop n p out₀ i₀ out i = PlacedBefore (λ (id : ℕ). setupOf id n p .state) i out₀ out
 
 abbrev μ-loop : tie.MeasureT-loop
 μ-loop n p out₀ i₀ out i = 16 - i
@@ -27,19 +23,17 @@ loop-again : tie.Need-loop-again Inv-loop μ-loop
 loop-again c =
     let a = c .before .before .before .before .before .before .args in
     let at = c .before .before .before .loop in
-    let all = each (λ (i : ℕ). controllers.setupOf i (a .n) (a .p) .state) 16 in
-    let size = each-length (λ (i : ℕ). controllers.setupOf i (a .n) (a .p) .state) 16 in
-    let here = each-at (λ (i : ℕ). controllers.setupOf i (a .n) (a .p) .state) 16 (at .i) noController (omega arith) ∙ sym (ap (λ (r : Reply). r .state) (c .before .setup2 .ensures)) in
-    (omega arith, rw (at .inv .1) (store all _ (at .i) _ noController (omega arith) (omega (arith, at .inv .2)) here), at .inv .2)
+    next-placed (λ (id : ℕ). setupOf id (a .n) (a .p) .state) (at .i) _ (at .inv) (omega arith) _
+    (ap (λ (r : Reply). r .state) (c .before .setup2 .ensures))
 
 returns : tie.Need-returns Inv-loop μ-loop
 returns c =
     let a = c .before .before .before .before .args in
     let at = c .before .loop in
-    all-placed (λ (i : ℕ). controllers.setupOf i (a .n) (a .p) .state) _ _ (at .i) (omega arith) (at .inv .1) (at .inv .2)
+    last-placed (λ (id : ℕ). setupOf id (a .n) (a .p) .state) (at .i) _ (at .inv) (omega arith)
 
 pub controllers-of-spec : {M : Type 1} → statement M
 controllers-of-spec =
     tie.close
-    (tie.spec Inv-loop μ-loop (λ c κs. search needs) loop-holds (λ c κs. search needs) (λ c. search needs) (λ c. search needs) (λ c. search needs)
-    (λ c. search needs) (λ c. search needs) loop-again returns)
+    (tie.spec Inv-loop μ-loop (λ c κs. search needs) loop-holds (λ c κs. search needs) (λ c. search needs)
+    (λ c. search needs) (λ c. search needs) (λ c. search needs) (λ c. search needs) loop-again returns)
