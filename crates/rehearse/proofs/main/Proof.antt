@@ -1,5 +1,5 @@
 -- `main` is safe and ends: what is printed stands within the output. Assumes nothing.
-use mathlib.Core.Path.{_≡_, sym, ap, _∙_}
+use mathlib.Core.Path.{_≡_, sym, ap}
 use mathlib.Core.List.{List}
 use Prim.Native.Nat.{ℕ, _≤_}
 use native.Mathlib.Omega.{arith}
@@ -28,10 +28,13 @@ array-share-prefix-out c = omega (arith, within (c .before))
 
 slice-aggregate-write-all : tie.Need-slice-aggregate-write-all
 slice-aggregate-write-all c =
-    sym (length-take-le (c .before .before .rehearse .result .length) (c .before .before .rehearse .last .1 .0) (omega (arith, within (c .before .before))))
+    let printed = c .before .before in
+    let size = printed .rehearse .result .length in
+    sym (length-take-le size (printed .rehearse .last .1 .0) (omega (arith, within printed)))
 
 pub main-spec : {M : Type 1} → statement M
 main-spec =
     tie.close
-    (tie.spec (λ c κs. search needs) (λ c. search needs) (λ c κs. search needs) (λ c κs. search needs) (λ c. search needs) (λ c. search needs)
-    (λ c. search needs) (λ c κs. search needs) array-share-prefix-out slice-aggregate-write-all (λ c κs. search needs) (λ c. search needs))
+    (tie.spec (λ c κs. search needs) (λ c. search needs) (λ c κs. search needs) (λ c κs. search needs)
+    (λ c. search needs) (λ c. search needs) (λ c. search needs) (λ c κs. search needs) array-share-prefix-out
+    slice-aggregate-write-all (λ c κs. search needs) (λ c. search needs))

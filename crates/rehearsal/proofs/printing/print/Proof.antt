@@ -13,10 +13,11 @@ returns c =
 
 returns-2 : tie.Need-returns-2
 returns-2 c =
-    let a = c .before .before .before .before .before .before .before .before .args in
-    all-printed (text (meaning (a .lines))) (a .out .now) (omega arith)
-    (c .before .before .before .before .before .text-width .ensures) (c .before .before .put-lines .ensures)
+    let put = c .before .before in
+    let measured = put .before .before .before in
+    let a = measured .before .before .before .args in
+    all-printed (text (meaning (a .lines))) (a .out .now) (omega arith) (measured .text-width .ensures)
+    (put .put-lines .ensures)
 
 pub print-spec : {M : Type 1} → statement M
-print-spec =
-    tie.close (tie.spec (λ c κs. search needs) returns (λ c κs. search needs) (λ c. search needs) returns-2)
+print-spec = tie.close (tie.spec (λ c κs. search needs) returns (λ c κs. search needs) (λ c. search needs) returns-2)

@@ -1,9 +1,15 @@
 -- `record_at` meets its contract: the branches answer questions 31 and 30. Assumes nothing.
+use mathlib.Core.List.{List}
+use Prim.Native.Nat.{ℕ}
 use native.Mathlib.Omega.{arith}
 use borrow.Author.Needs.{needs}
 use Rattle.rehearsal.proofs.Fields.{unknown, cut, found}
 use Rattle.rehearsal.proofs.records.record_at.Statement.{statement}
 use Rattle.rehearsal.proofs.records.record_at.Tie as tie
+
+-- the bytes, where their kind is known
+abbrev bytes : tie.After-kind-of → List ℕ
+bytes c = c .before .before .before .before .before .args .b .now
 
 returns : tie.Need-returns
 returns c = unknown (c .before .before .before .args .b .now) (λ low high. omega arith)
@@ -12,14 +18,20 @@ returns-2 : tie.Need-returns-2
 returns-2 c = unknown (c .before .before .before .before .args .b .now) (λ low high. omega arith)
 
 returns-3 : tie.Need-returns-3
-returns-3 c = cut (c .before .before .before .before .before .before .before .args .b .now) (omega arith) (omega arith) (c .before .before .kind-of .ensures) (c .before .size-of .ensures) (omega arith)
+returns-3 c =
+    let sized = c .before in
+    let kind = sized .before in
+    cut (bytes kind) (omega arith) (omega arith) (kind .kind-of .ensures) (sized .size-of .ensures) (omega arith)
 
 returns-4 : tie.Need-returns-4
 returns-4 c =
-    found (c .before .before .before .before .before .before .before .before .args .b .now) (omega arith) (omega arith) (c .before .before .before .kind-of .ensures) (c .before .before .size-of .ensures) (omega arith)
+    let sized = c .before .before in
+    let kind = sized .before in
+    found (bytes kind) (omega arith) (omega arith) (kind .kind-of .ensures) (sized .size-of .ensures) (omega arith)
     (c .record-of .ensures)
 
 pub record-at-spec : {M : Type 1} → statement M
 record-at-spec =
     tie.close
-    (tie.spec (λ c. search needs) returns returns-2 (λ c κs. search needs) (λ c κs. search needs) returns-3 (λ c κs. search needs) returns-4)
+    (tie.spec (λ c. search needs) returns returns-2 (λ c κs. search needs) (λ c κs. search needs) returns-3
+    (λ c κs. search needs) returns-4)

@@ -1,10 +1,5 @@
 -- `fault` meets its contract: one line, and the other places empty. Assumes nothing.
 use borrow.Author.Needs.{needs}
-use mathlib.Core.Path.{_≡_, sym, ap}
-use mathlib.Core.List.{List, []}
-use lib.ListN.{set, replicate}
-use Rattle.lists.specs.Arrays.{pad}
-use Rattle.lists.proofs.Padding.{pad-none, pad-snoc}
 use Rattle.rehearsal.proofs.Turns.{one-line}
 use Rattle.rehearsal.proofs.scripts.fault.Statement.{statement}
 use Rattle.rehearsal.proofs.scripts.fault.Tie as tie
@@ -13,6 +8,4 @@ returns : tie.Need-returns
 returns c = one-line (c .args .answer)
 
 pub fault-spec : {M : Type 1} → statement M
-fault-spec =
-    tie.close
-    (tie.spec (λ c. search needs) returns)
+fault-spec = tie.close (tie.spec (λ c. search needs) returns)

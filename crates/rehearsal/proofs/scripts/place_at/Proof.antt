@@ -1,7 +1,7 @@
 -- `place_at` meets its contract: past the end a list has its default. Assumes nothing.
+use mathlib.Core.Path.{_≡_, sym, _∙_}
 use native.Mathlib.Omega.{arith}
 use borrow.Author.Needs.{needs}
-use mathlib.Core.Path.{_≡_, sym, _∙_}
 use lib.ListN.{length, List·getD-eq-default}
 use Rattle.lists.proofs.Stores.{length-mapped}
 use Rattle.rehearsal.specs.Worlds.{emptyPlace}
@@ -25,6 +25,4 @@ returns-2 c =
     getD-any (a .t1) (a .place) _ emptyPlace (omega arith)
 
 pub place-at-spec : {M : Type 1} → statement M
-place-at-spec =
-    tie.close
-    (tie.spec (λ c κs. search needs) returns (λ c. search needs) (λ c. search needs) returns-2)
+place-at-spec = tie.close (tie.spec (λ c κs. search needs) returns (λ c. search needs) (λ c. search needs) returns-2)

@@ -1,7 +1,7 @@
 -- `record_question` meets its contract: the branches answer questions 12, 29 and 26. Assumes nothing.
+use mathlib.Core.Path.{sym, _∙_}
 use native.Mathlib.Omega.{arith}
 use borrow.Author.Needs.{needs}
-use mathlib.Core.Path.{_≡_, sym, _∙_}
 use borrow.Author.Tests.{lt-ltb, le-ltb}
 use Rattle.answer.proofs.Asked.{none-asked, refused, asked}
 use Rattle.rehearsal.proofs.scripts.record_question.Statement.{statement}
@@ -27,23 +27,25 @@ returns-3 c =
 
 returns-4 : tie.Need-returns-4
 returns-4 c =
+    let which = c .before .switch-of in
     let a = c .before .before .before .before .before .before .before .before .args in
     sym (asked _ _ 12 _ _
     (rw (lt-ltb (a .r .controller) (a .n) (omega arith), lt-ltb (a .r .switch) 16 (omega arith)))
     ∙ asked _ _ 29 _ _ (lt-ltb (a .r .place) 64 (omega arith))
-    ∙ refused _ _ 26 _ _ (rw (← c .before .switch-of .ensures) (le-ltb (c .before .switch-of .result) 16 (omega arith))))
+    ∙ refused _ _ 26 _ _ (rw (← which .ensures) (le-ltb (which .result) 16 (omega arith))))
 
 returns-5 : tie.Need-returns-5
 returns-5 c =
+    let which = c .before .switch-of in
     let a = c .before .before .before .before .before .before .before .before .args in
     sym (asked _ _ 12 _ _
     (rw (lt-ltb (a .r .controller) (a .n) (omega arith), lt-ltb (a .r .switch) 16 (omega arith)))
     ∙ asked _ _ 29 _ _ (lt-ltb (a .r .place) 64 (omega arith))
-    ∙ asked _ _ 26 _ _ (rw (← c .before .switch-of .ensures) (lt-ltb (c .before .switch-of .result) 16 (omega arith)))
+    ∙ asked _ _ 26 _ _ (rw (← which .ensures) (lt-ltb (which .result) 16 (omega arith)))
     ∙ none-asked _ _)
 
 pub record-question-spec : {M : Type 1} → statement M
 record-question-spec =
     tie.close
-    (tie.spec returns (λ c. search needs) returns-2 (λ c. search needs) returns-3 (λ c κs. search needs) (λ c. search needs)
-    returns-4 returns-5)
+    (tie.spec returns (λ c. search needs) returns-2 (λ c. search needs) returns-3 (λ c κs. search needs)
+    (λ c. search needs) returns-4 returns-5)

@@ -1,6 +1,5 @@
 -- `rehearse` meets its contract: all lines are stored, and they are printed. Assumes nothing.
-use mathlib.Core.Path.{_≡_, sym, ap, _∙_}
-use native.Mathlib.Omega.{arith}
+use mathlib.Core.Path.{ap, _∙_}
 use borrow.Author.Needs.{needs}
 use Rattle.rehearsal.specs.Lines.{meaning}
 use Rattle.rehearsal.specs.Scripts.{linesOf}
@@ -11,15 +10,16 @@ use Rattle.rehearsal.proofs.scripts.rehearse.Tie as tie
 
 print-requires : tie.Need-print-requires
 print-requires c κs =
-    rw (ap (λ (l : Lines). l .count) (c .before .play .ensures)) (few-lines (c .before .before .before .before .args .input .now))
+    let played = c .before in
+    let input = played .before .before .before .args .input .now in
+    rw (ap (λ (l : Lines). l .count) (played .play .ensures)) (few-lines input)
 
 returns : tie.Need-returns
 returns c =
-    let input = c .before .before .before .before .before .before .before .args .input .now in
-    let told = ap meaning (c .before .before .before .before .play .ensures) ∙ meaning-stored (linesOf input) (few-lines input) in
+    let played = c .before .before .before .before in
+    let input = played .before .before .before .args .input .now in
+    let told = ap meaning (played .play .ensures) ∙ meaning-stored (linesOf input) (few-lines input) in
     rw (← told) (c .before .before .print .ensures)
 
 pub rehearse-spec : {M : Type 1} → statement M
-rehearse-spec =
-    tie.close
-    (tie.spec (λ c κs. search needs) print-requires (λ c. search needs) returns)
+rehearse-spec = tie.close (tie.spec (λ c κs. search needs) print-requires (λ c. search needs) returns)

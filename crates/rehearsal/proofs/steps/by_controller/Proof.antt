@@ -7,6 +7,4 @@ returns : tie.Need-returns
 returns c = rw (← c .undone-in .ensures)
 
 pub by-controller-spec : {M : Type 1} → statement M
-by-controller-spec =
-    tie.close
-    (tie.spec (λ c κs. search needs) returns)
+by-controller-spec = tie.close (tie.spec (λ c κs. search needs) returns)

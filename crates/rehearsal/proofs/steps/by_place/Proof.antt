@@ -7,6 +7,4 @@ returns : tie.Need-returns
 returns c = rw (← c .keep .ensures)
 
 pub by-place-spec : {M : Type 1} → statement M
-by-place-spec =
-    tie.close
-    (tie.spec (λ c κs. search needs) returns)
+by-place-spec = tie.close (tie.spec (λ c κs. search needs) returns)

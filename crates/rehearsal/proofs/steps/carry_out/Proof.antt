@@ -20,8 +20,9 @@ returns-3 c = rw (c .before .before .enum-told3 .given .1, ← c .before .report
 returns-4 : tie.Need-returns-4
 unfolding carriedOut
 returns-4 c =
-    let share = rw (lent-rest (c .before .before .before .before .before .before .args .bytes .now) 2) at (c .before .deliver .ensures) in
-    rw (c .before .before .before .enum-told4 .given .1, ← share) (c .by-switch2 .ensures)
+    let told = c .before .before .before in
+    let share = rw (lent-rest (told .before .before .before .args .bytes .now) 2) at (c .before .deliver .ensures) in
+    rw (told .enum-told4 .given .1, ← share) (c .by-switch2 .ensures)
 
 returns-5 : tie.Need-returns-5
 unfolding carriedOut
@@ -29,12 +30,16 @@ returns-5 c = rw (c .before .before .enum-told5 .given .1, ← c .before .make-s
 
 returns-6 : tie.Need-returns-6
 unfolding carriedOut
-returns-6 c = rw (c .before .before .before .before .enum-told6 .given .1, ← c .before .deliver2 .ensures) (c .by-switch3 .ensures)
+returns-6 c =
+    let told = c .before .before .before .before in
+    rw (told .enum-told6 .given .1, ← c .before .deliver2 .ensures) (c .by-switch3 .ensures)
 
 pub carry-out-spec : {M : Type 1} → statement M
 carry-out-spec =
     tie.close
-    (tie.spec (λ c. search needs) (λ c κs. search needs) (λ c κs. search needs) (λ c. search needs) (λ c κs. search needs) (λ c κs. search needs)
-    (λ c. search needs) (λ c κs. search needs) (λ c κs. search needs) (λ c. search needs) (λ c. search needs) (λ c. search needs) (λ c. search needs)
-    (λ c κs. search needs) (λ c κs. search needs) (λ c. search needs) (λ c κs. search needs) (λ c κs. search needs) (λ c. search needs) (λ c. search needs)
-    (λ c κs. search needs) (λ c κs. search needs) returns returns-2 returns-3 returns-4 returns-5 returns-6)
+    (tie.spec (λ c. search needs) (λ c κs. search needs) (λ c κs. search needs) (λ c. search needs)
+    (λ c κs. search needs) (λ c κs. search needs) (λ c. search needs) (λ c κs. search needs) (λ c κs. search needs)
+    (λ c. search needs) (λ c. search needs) (λ c. search needs) (λ c. search needs) (λ c κs. search needs)
+    (λ c κs. search needs) (λ c. search needs) (λ c κs. search needs) (λ c κs. search needs) (λ c. search needs)
+    (λ c. search needs) (λ c κs. search needs) (λ c κs. search needs) returns returns-2 returns-3 returns-4 returns-5
+    returns-6)

@@ -6,10 +6,10 @@ use Rattle.rehearsal.proofs.steps.make_share.Tie as tie
 
 returns : tie.Need-returns
 returns c =
-    let a = c .before .before .before .before .before .args in
-    made-share (a .c) (a .controller) (a .switch) (c .before .before .before .before .controller-keys .ensures) (c .before .write-share .ensures)
+    let keys = c .before .before .before .before in
+    let a = keys .before .args in
+    made-share (a .c) (a .controller) (a .switch) (keys .controller-keys .ensures) (c .before .write-share .ensures)
 
 pub make-share-spec : {M : Type 1} → statement M
 make-share-spec =
-    tie.close
-    (tie.spec (λ c κs. search needs) (λ c. search needs) (λ c. search needs) (λ c κs. search needs) returns)
+    tie.close (tie.spec (λ c κs. search needs) (λ c. search needs) (λ c. search needs) (λ c κs. search needs) returns)

@@ -8,13 +8,15 @@ use Rattle.rehearsal.proofs.steps.send.Tie as tie
 
 returns : tie.Need-returns
 unfolding sent
-returns c = rw (← c .before .before .make-share .ensures, ne-eqb (c .before .before .make-share .result .answer) 0 (c .if1 .taken))
+returns c =
+    let made = c .before .before .make-share in
+    rw (← made .ensures, ne-eqb (made .result .answer) 0 (c .if1 .taken))
 
 returns-2 : tie.Need-returns-2
 unfolding sent
-returns-2 c = rw (← c .before .before .before .before .before .make-share .ensures, eq-eqb (c .before .before .before .before .before .make-share .result .answer) 0 (omega arith)) (c .deliver .ensures)
+returns-2 c =
+    let made = c .before .before .before .before .before .make-share in
+    rw (← made .ensures, eq-eqb (made .result .answer) 0 (omega arith)) (c .deliver .ensures)
 
 pub send-spec : {M : Type 1} → statement M
-send-spec =
-    tie.close
-    (tie.spec (λ c κs. search needs) returns (λ c. search needs) (λ c κs. search needs) returns-2)
+send-spec = tie.close (tie.spec (λ c κs. search needs) returns (λ c. search needs) (λ c κs. search needs) returns-2)

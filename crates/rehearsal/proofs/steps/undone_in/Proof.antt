@@ -1,7 +1,7 @@
 -- `undone_in` meets its contract: no more can be counted than there are places. Assumes nothing.
+use mathlib.Core.Path.{_≡_, sym}
 use native.Mathlib.Omega.{arith}
 use borrow.Author.Needs.{needs}
-use mathlib.Core.Path.{_≡_, sym, _∙_}
 use lib.ListN.{length}
 use lib.Seq.{length-take-le, take-all}
 use Rattle.lists.proofs.Stores.{length-mapped}
@@ -13,15 +13,15 @@ long c = search (needs, length-mapped)
 
 returns : tie.Need-returns
 returns c =
-    let h = c .before .before .before .args .h in
-    sym (length-take-le (h .count) (h .changes) (omega (arith, long (c .before .before .before))))
+    let start = c .before .before .before in
+    let h = start .args .h in
+    sym (length-take-le (h .count) (h .changes) (omega (arith, long start)))
 
 returns-2 : tie.Need-returns-2
 returns-2 c =
-    let h = c .before .before .args .h in
-    sym (rw (take-all (h .count) (h .changes) (omega (arith, long (c .before .before)))) (long (c .before .before)))
+    let start = c .before .before in
+    let h = start .args .h in
+    sym (rw (take-all (h .count) (h .changes) (omega (arith, long start))) (long start))
 
 pub undone-in-spec : {M : Type 1} → statement M
-undone-in-spec =
-    tie.close
-    (tie.spec (λ c. search needs) returns returns-2)
+undone-in-spec = tie.close (tie.spec (λ c. search needs) returns returns-2)
