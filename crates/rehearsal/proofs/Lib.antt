@@ -1,5 +1,4 @@
--- Laws of the rehearsal. Fields, Inputs, Making and Putting are for this crate's own functions.
-pub mod Stores
+-- Laws of the rehearsal. Fields, Filling, Inputs, Making and Putting are for this crate's own functions.
 pub mod Turns
 pub mod Decimals
 pub mod Texts
