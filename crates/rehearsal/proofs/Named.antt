@@ -7,7 +7,7 @@ use Prim.Native.Nat.{ℕ}
 use borrow.Author.Tests.{ne-eqb}
 use lib.Seq.{set-getD}
 use Rattle.rehearsal.specs.Steps.{carriedOut}
-use Rattle.rehearsal.specs.Scripts.{carriedIn, worldAfter}
+use Rattle.rehearsal.specs.Effects.{carriedIn, worldAfter}
 use Rattle.rehearsal.specs.declared.Kind.the-variants.{Decide, Send, Report, Raw, Keep, Deliver}
 use Rattle.rehearsal.specs.declared.Record.{Record}
 use Rattle.rehearsal.specs.declared.World.{World}

@@ -14,7 +14,8 @@ use Rattle.lists.proofs.Padding.{pad-take}
 use Rattle.rehearsal.specs.Lines.{text, meaning, printed}
 use Rattle.rehearsal.specs.Worlds.{worldOf}
 use Rattle.rehearsal.specs.Records.{sizeOf, recordAt}
-use Rattle.rehearsal.specs.Scripts.{placeOf, recordQuestions, worldAfter, nextLines, linesFrom}
+use Rattle.rehearsal.specs.Effects.{placeOf, recordQuestions, worldAfter}
+use Rattle.rehearsal.specs.Scripts.{nextLines, linesFrom}
 use Rattle.rehearsal.specs.Scripts.{controllersIn, bookIn, scriptIn, linesOf, rehearsed, noLine, linesStored}
 use Rattle.rehearsal.specs.declared.Line.{Line}
 use Rattle.rehearsal.specs.declared.Next.{Next}

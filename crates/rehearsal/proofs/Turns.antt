@@ -19,8 +19,9 @@ use Rattle.rehearsal.specs.Records.{isKind, kindOf, sizeOf, recordOf, re
 use Rattle.switch.specs.declared.Switch.{Switch}
 use Rattle.controller.specs.declared.Controller.{Controller}
 use Rattle.rehearsal.specs.Steps.{carriedOut}
-use Rattle.rehearsal.specs.Scripts.{noSwitch, noController, placeOf, switchOf, recordQuestions, withEnds}
-use Rattle.rehearsal.specs.Scripts.{carriedIn, worldAfter, lineOf, nextLines, linesFrom, noLine, linesStored}
+use Rattle.rehearsal.specs.Effects.{noSwitch, noController, placeOf, switchOf, recordQuestions, withEnds}
+use Rattle.rehearsal.specs.Effects.{carriedIn, worldAfter}
+use Rattle.rehearsal.specs.Scripts.{lineOf, nextLines, linesFrom, noLine, linesStored}
 use Rattle.rehearsal.specs.declared.Kind.{Kind}
 use Rattle.rehearsal.specs.declared.Kind.the-variants.{Decide, Send, Report, Raw, Keep, Deliver}
 use Rattle.rehearsal.specs.declared.Line.{Line}
@@ -235,21 +236,20 @@ module _ (s : List ℕ) (before w : World) (places : List Line) (count at : ℕ)
 
 -- before the first record
 pub starts : (s : List ℕ) (w : World) → length (w .switches) ≡ 16 → length (w .controllers) ≡ 16
-    → SoFar s w w (replicate 4096 noLine) 0 0
-starts s w ss cs = record {
+    → {places : List Line} → places ≡ replicate 4096 noLine → SoFar s w w places 0 0
+starts s w ss cs none = record {
   within = omega arith;
   few = omega arith;
   same-n = refl;
   switches = ss;
   controllers = cs;
-  padded = sym (pad-none 4096 noLine);
+  padded = none ∙ sym (pad-none 4096 noLine);
   told = refl;
 }
 
 -- the one line of a fault
-pub one-line : (q : ℕ)
-    → record { places = set (replicate 4096 noLine) 0 (lineOf 0 q 0); count = 1 } ≡ linesStored (lineOf 0 q 0 ∷ [])
-one-line q =
-    ap (λ (p : List Line). record { places = p; count = 1 })
-    (ap (λ (p : List Line). set p 0 (lineOf 0 q 0)) (sym (pad-none 4096 noLine))
-    ∙ pad-snoc 4096 noLine [] (lineOf 0 q 0))
+pub one-line : (q : ℕ) {places : List Line} → places ≡ replicate 4096 noLine
+    → record { places = set places 0 (lineOf 0 q 0); count = 1 } ≡ linesStored (lineOf 0 q 0 ∷ [])
+one-line q none =
+    ap (λ (p : List Line). record { places = set p 0 (lineOf 0 q 0); count = 1 }) (none ∙ sym (pad-none 4096 noLine))
+    ∙ ap (λ (p : List Line). record { places = p; count = 1 }) (pad-snoc 4096 noLine [] (lineOf 0 q 0))

@@ -12,14 +12,15 @@ use Rattle.rehearsal.specs.declared.Next.{Next}
 use Rattle.rehearsal.specs.declared.Next.the-variants.{Found, Refused}
 use Rattle.rehearsal.specs.declared.Record.{Record}
 
--- kinds are the bytes 0x21 to 0x26
+-- kinds of records
 abbrev pub isKind : ℕ → Bool
-isKind byte = leb 33 byte && leb byte 38
+isKind byte = leb 0x21 byte && leb byte 0x26
 
 abbrev pub kindOf : ℕ → Kind
 kindOf byte =
-    pick (eqb byte 33) Decide
-    (pick (eqb byte 34) Send (pick (eqb byte 35) Report (pick (eqb byte 36) Raw (pick (eqb byte 37) Keep Deliver))))
+    pick (eqb byte 0x21) Decide
+    (pick (eqb byte 0x22) Send
+    (pick (eqb byte 0x23) Report (pick (eqb byte 0x24) Raw (pick (eqb byte 0x25) Keep Deliver))))
 
 -- bytes of a record, its kind among them
 abbrev pub sizeOf : Kind → ℕ

@@ -4,6 +4,7 @@ use controller::Controller;
 use switch::Switch;
 
 mod digits;
+mod effects;
 mod keys;
 mod limits;
 mod printing;

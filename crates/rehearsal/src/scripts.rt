@@ -1,75 +1,27 @@
 // A script carried out record after record, and the whole input rehearsed.
 ghost use mathlib.Core.Path.{_≡_};
+ghost use mathlib.Core.Bool.{_&&_};
 ghost use mathlib.Core.List.{[], _∷_};
 ghost use Prim.Native.Nat.{_+_, _≤_};
-ghost use lib.ListN.{length, getD};
-ghost use mathlib.Core.Bool.{_&&_};
 ghost use lib.Dec.{leb};
-ghost use Rattle.answer.specs.Ask.{firstNo};
-ghost use Rattle.rehearsal.specs.Worlds.{emptyPlace};
-ghost use Rattle.rehearsal.specs.Scripts.{rehearsed};
-ghost use Rattle.rehearsal.specs.Scripts.{switchOf, recordQuestions, lineOf, linesFrom, linesOf, linesStored};
-use crate::Kind;
+ghost use lib.ListN.{length, replicate};
+ghost use Rattle.rehearsal.specs.Scripts.{lineOf, linesFrom, linesOf, rehearsed, noLine, linesStored};
 use crate::Line;
 use crate::Lines;
 use crate::Next;
-use crate::Place;
 use crate::Printed;
-use crate::Record;
 use crate::World;
+use crate::effects::place_at;
+use crate::effects::record_question;
+use crate::effects::switch_of;
 use crate::limits;
 use crate::printing::print;
 use crate::records::record_at;
 use crate::records::size_of;
 use crate::steps::carry_out;
-use crate::worlds::empty_place;
 use crate::worlds::world_of;
 
-// The place with a number, or an empty one where there is none.
-fn place_at(places: [Place; limits::PLACES], place: u8) -> Place
-    ensures { λ r. ⌜ r ≡ getD places place emptyPlace ⌝ }
-{
-    if limits::PLACES <= place as usize {
-        return empty_place();
-    }
-    let found = places[place as usize];
-    found
-}
-
-// The number of the switch that a record is about: a kept share has its own.
-fn switch_of(r: Record, place: Place) -> u8
-    ensures { λ k. ⌜ k ≡ switchOf (r .kind) r place ⌝ }
-{
-    let kind = r.kind;
-    match kind {
-        Kind::Decide => r.switch,
-        Kind::Send => r.switch,
-        Kind::Report => r.switch,
-        Kind::Raw => r.switch,
-        Kind::Keep => r.switch,
-        Kind::Deliver => place.switch,
-    }
-}
-
-// Questions 12, 29 and 26, before anything is made or delivered.
-fn record_question(n: u8, r: Record, place: Place) -> u8
-    ensures { λ k. ⌜ k ≡ firstNo (recordQuestions n r place) ⌝ }
-{
-    if n <= r.controller {
-        return answer::UNKNOWN_ID;
-    }
-    if limits::SWITCHES <= r.switch as usize {
-        return answer::UNKNOWN_ID;
-    }
-    if limits::PLACES <= r.place as usize {
-        return answer::UNKNOWN_PLACE;
-    }
-    if limits::SWITCHES <= switch_of(r, place) as usize {
-        return answer::NOTHING_TO_SEND;
-    }
-    answer::DONE
-}
-
+// The line of the record after so many.
 fn line(before: usize, answer: u8, figure: u32) -> Line
     requires { ⌜ before ≤ 4096 ⌝ }
     ensures { λ r. ⌜ r ≡ lineOf (before + 1) answer figure ⌝ }
@@ -81,16 +33,23 @@ fn line(before: usize, answer: u8, figure: u32) -> Line
     }
 }
 
-// A fault before the script.
-fn fault(answer: u8) -> Lines
-    ensures { λ r. ⌜ r ≡ linesStored (lineOf 0 answer 0 ∷ []) ⌝ }
+// An array with no line in it.
+fn no_lines() -> [Line; limits::LINES]
+    ensures { λ r. ⌜ r ≡ replicate 4096 noLine ⌝ }
 {
     let none = Line {
         ordinal: 0,
         answer: 0,
         figure: 0,
     };
-    let mut places = [none; limits::LINES];
+    [none; limits::LINES]
+}
+
+// A fault before the script.
+fn fault(answer: u8) -> Lines
+    ensures { λ r. ⌜ r ≡ linesStored (lineOf 0 answer 0 ∷ []) ⌝ }
+{
+    let mut places = no_lines();
     places[0] = Line {
         ordinal: 0,
         answer: answer,
@@ -108,13 +67,8 @@ fn follow(w: World, script: &[u8]) -> Lines
     requires { ⌜ (w .n ≤ 16) × (length (now script) ≤ 8192) ⌝ }
     ensures { λ r. ⌜ r ≡ linesStored (linesFrom 0 (now (script .entry)) 1 w) ⌝ }
 {
-    let none = Line {
-        ordinal: 0,
-        answer: 0,
-        figure: 0,
-    };
     let mut world = w;
-    let mut places = [none; limits::LINES];
+    let mut places = no_lines();
     let mut count: usize = 0;
     let mut at: usize = 0;
     while at < script.len() {

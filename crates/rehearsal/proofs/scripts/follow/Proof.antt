@@ -9,7 +9,7 @@ use lib.ListN.{length, drop, length-drop}
 use Rattle.answer.specs.Ask.{firstNo}
 use Rattle.lists.proofs.Stores.{length-mapped, lent-rest}
 use Rattle.rehearsal.specs.Records.{recordAt}
-use Rattle.rehearsal.specs.Scripts.{switchOf, recordQuestions}
+use Rattle.rehearsal.specs.Effects.{switchOf, recordQuestions}
 use Rattle.rehearsal.specs.declared.Next.the-variants.{Found}
 use Rattle.rehearsal.specs.declared.Record.{Record}
 use Rattle.rehearsal.proofs.Turns.{SoFar, starts, two-or-more, found-whole, named}
@@ -31,7 +31,7 @@ controllers-long c = search (needs, length-mapped)
 
 -- the script, in a turn
 abbrev bytes : tie.In-loop Inv-loop μ-loop → List ℕ
-bytes c = c .before .before .before .args .script .now
+bytes c = c .before .before .before .before .args .script .now
 
 -- places of the walk to a record's line: before its size was known it was found, in its turn, after the start; before
 -- its ends were taken out of the world it had passed its questions
@@ -42,7 +42,7 @@ abbrev turn : tie.After-size-of Inv-loop μ-loop → tie.In-loop Inv-loop μ-loo
 turn c = found c .before .before .before .before
 
 abbrev start : tie.After-size-of Inv-loop μ-loop → tie.Start Inv-loop μ-loop
-start c = turn c .before .before .before
+start c = turn c .before .before .before .before
 
 abbrev passed : tie.After-s Inv-loop μ-loop → tie.Else1 Inv-loop μ-loop
 passed c = c .before .before .before .before .before
@@ -90,8 +90,9 @@ names c =
 
 loop-holds : tie.Need-loop-holds Inv-loop μ-loop
 loop-holds c =
-    let a = c .before .args in
-    starts (a .script .now) (a .w) (switches-long (c .before)) (controllers-long (c .before))
+    let begun = c .before .before in
+    let a = begun .args in
+    starts (a .script .now) (a .w) (switches-long begun) (controllers-long begun) (c .no-lines .ensures)
 
 returns : tie.Need-returns Inv-loop μ-loop
 returns c =
@@ -149,7 +150,12 @@ part-carry-out-end : tie.Need-part-carry-out-end Inv-loop μ-loop
 part-carry-out-end c = omega (arith, fits (passed c .before))
 
 carry-out-requires : tie.Need-carry-out-requires Inv-loop μ-loop
-carry-out-requires c κs = let two = fits (passed (c .before) .before) in search needs
+carry-out-requires c κs =
+    let sized = passed (c .before) .before in
+    let two = fits sized in
+    let few = start sized .pre .0 in
+    let same = turn sized .before .loop .inv .same-n in
+    search needs
 
 element-set-from-c : tie.Need-element-set-from-c Inv-loop μ-loop
 element-set-from-c c = omega (arith, names (passed (c .before .before .before)) .0)
@@ -193,18 +199,18 @@ loop-again-2 c =
 returns-2 : tie.Need-returns-2 Inv-loop μ-loop
 returns-2 c =
     let at = c .before .loop in
-    let script = c .before .before .before .args .script .now in
+    let script = c .before .before .before .before .args .script .now in
     ends script _ (at .world) (at .places) (at .count) (at .at) (omega arith) (at .inv) (c .loop-test .left)
 
 pub follow-spec : {M : Type 1} → statement M
 follow-spec =
     tie.close
-    (tie.spec Inv-loop μ-loop loop-holds (λ c. search needs) (λ c. search needs) (λ c. search needs)
-    (λ c κs. search needs) (λ c. search needs) (λ c κs. search needs) (λ c. search needs) (λ c. search needs)
-    (λ c. search needs) returns (λ c. search needs) (λ c κs. search needs) (λ c κs. search needs) (λ c κs. search needs)
-    line-requires-2 mul-places-2 array-set-from-places-2 add-count add-at loop-less loop-again (λ c. search needs)
-    (λ c κs. search needs) (λ c. search needs) (λ c. search needs) (λ c. search needs) element-copy-out-c
-    (λ c. search needs) element-copy-out-s add-carry-out sub-carry-out part-carry-out-start part-carry-out-end
-    carry-out-requires (λ c. search needs) element-set-from-c (λ c. search needs) element-set-from-s (λ c. search needs)
-    element-set-from-q line-requires-3 mul-places-3 array-set-from-places-3 add-count-2 add-at-2 loop-less-2
-    loop-again-2 returns-2)
+    (tie.spec Inv-loop μ-loop (λ c κs. search needs) loop-holds (λ c. search needs) (λ c. search needs)
+    (λ c. search needs) (λ c κs. search needs) (λ c. search needs) (λ c κs. search needs) (λ c. search needs)
+    (λ c. search needs) (λ c. search needs) returns (λ c. search needs) (λ c κs. search needs) (λ c κs. search needs)
+    (λ c κs. search needs) line-requires-2 mul-places-2 array-set-from-places-2 add-count add-at loop-less loop-again
+    (λ c. search needs) (λ c κs. search needs) (λ c. search needs) (λ c. search needs) (λ c. search needs)
+    element-copy-out-c (λ c. search needs) element-copy-out-s add-carry-out sub-carry-out part-carry-out-start
+    part-carry-out-end carry-out-requires (λ c. search needs) element-set-from-c (λ c. search needs)
+    element-set-from-s (λ c. search needs) element-set-from-q line-requires-3 mul-places-3 array-set-from-places-3
+    add-count-2 add-at-2 loop-less-2 loop-again-2 returns-2)

@@ -4,8 +4,8 @@ use native.Mathlib.Omega.{arith}
 use borrow.Author.Needs.{needs}
 use borrow.Author.Tests.{lt-ltb, le-ltb}
 use Rattle.answer.proofs.Asked.{none-asked, refused, asked}
-use Rattle.rehearsal.proofs.scripts.record_question.Statement.{statement}
-use Rattle.rehearsal.proofs.scripts.record_question.Tie as tie
+use Rattle.rehearsal.proofs.effects.record_question.Statement.{statement}
+use Rattle.rehearsal.proofs.effects.record_question.Tie as tie
 
 returns : tie.Need-returns
 returns c =

@@ -6,8 +6,8 @@ use lib.ListN.{length, List·getD-eq-default}
 use Rattle.lists.proofs.Stores.{length-mapped}
 use Rattle.rehearsal.specs.Worlds.{emptyPlace}
 use Rattle.rehearsal.proofs.Making.{getD-any}
-use Rattle.rehearsal.proofs.scripts.place_at.Statement.{statement}
-use Rattle.rehearsal.proofs.scripts.place_at.Tie as tie
+use Rattle.rehearsal.proofs.effects.place_at.Statement.{statement}
+use Rattle.rehearsal.proofs.effects.place_at.Tie as tie
 
 long : (c : tie.Start) → length (c .args .t1) ≡ 64
 long c = search (needs, length-mapped)
