@@ -63,6 +63,10 @@ echo 'echo "4 passed, 0 failed"' >"$tree/tests/four.sh"
 expect 'a script passes' 0 '13 passed, 0 failed'
 echo 'echo "3 passed, 1 failed"' >"$tree/tests/four.sh"
 expect 'a script counts a failure and exits well' 1 '12 passed, 1 failed'
+echo 'echo "not run: no tool for it"' >"$tree/tests/four.sh"
+expect 'a script is not run' 0 '9 passed, 0 failed'
+echo 'echo "not run: no tool for it"; exit 1' >"$tree/tests/four.sh"
+expect 'a script is not run and fails' 1 '9 passed, 1 failed'
 echo 'exit 0' >"$tree/tests/four.sh"
 expect 'a script counts nothing' 1 '9 passed, 1 failed'
 echo 'exit 2' >"$tree/tests/four.sh"
