@@ -1,4 +1,4 @@
-"""Calls at one switch for the program drills, and what it must print, worked out from document 01 with Python's own
+"""Calls at one switch for the program drive, and what it must print, worked out from document 01 with Python's own
 library.
 
     python3 tests/drills.py stdin          the calls
@@ -151,29 +151,28 @@ class Drill(Calls):
     """Calls at one switch."""
 
     def __init__(self, long):
-        super().__init__(long, Switch())
+        super().__init__(long, "switch", Switch())
         self.keys = b""
 
     def replied(self, word, answer, more=""):
-        self.lines.append("%s %d%s%s" % (word, answer, self.state.show(), more))
+        self.line("%s %d%s%s" % (word, answer, self.state.show(), more))
         return answer
 
     def setup(self, id, n):
-        self.case(b"S", bytes([id, n]))
+        self.call("S", bytes([id, n]))
         good = id <= 15 and 1 <= n <= 16
         self.state = Switch(id, n) if good else Switch()
         self.replied("setup", 0 if good else 20)
 
-    def store(self, id, length):
-        self.case(b"K", struct.pack(">BH", id, length))
-        self.keys = b"".join(key(c, id) for c in range(17))[:length]
+    def keys_of(self, id, length):
+        self.store(b"".join(key(c, id) for c in range(17))[:length])
 
     def start(self, id, n):
         self.setup(id, n)
-        self.store(id, 32 * n)
+        self.keys_of(id, 32 * n)
 
     def receive(self, s):
-        self.case(b"M", s)
+        self.call("M", s)
         return self.replied("received", self.state.receive(self.keys, s))
 
     def share(self, controller, number, rule):
@@ -184,34 +183,38 @@ class Drill(Calls):
             self.share(controller, number, rule)
 
     def raise_event(self, cause):
-        self.case(b"R", bytes([cause]))
+        self.call("R", bytes([cause]))
         return self.replied("raised", self.state.raise_event(cause))
 
     def raise_in_place(self, cause):
-        self.case(b"I", bytes([cause]))
+        self.call("I", bytes([cause]))
         return self.replied("raised in place", self.state.raise_in_place(cause))
 
     def write(self, event, length, controller, offset):
-        self.case(b"E" if event else b"A", struct.pack(">BBQ", length, controller, offset))
+        self.call("E" if event else "A", struct.pack(">BBQ", length, controller, offset))
         answer, frame = self.state.write(self.keys, event, length, controller, offset)
         return self.replied("written", answer, " frame " + frame.hex())
 
     def look_up(self, address):
-        self.case(b"L", struct.pack(">I", address))
-        self.lines.append("looked up " + self.state.look_up(address))
+        self.call("L", struct.pack(">I", address))
+        found = self.state.look_up(address)
+        self.line("looked up " + found)
+        if self.state.good():
+            self.call("T", struct.pack(">I", address))
+            self.line("forwarded " + found)
 
     def quorum(self, n):
-        self.case(b"Q", bytes([n]))
-        self.lines.append("quorum %d" % quorum(n))
+        self.call("Q", bytes([n]))
+        self.line("quorum %d" % quorum(n))
 
     # What a state is made to be, without a call.
 
     def set_raised(self, serial, cause):
-        self.case(b"X", struct.pack(">BIB", 3, serial, cause))
+        self.alter(struct.pack(">BIB", 3, serial, cause))
         self.state.serial, self.state.cause = serial, cause
 
     def poke_slot(self, i, number, prefix, length, kind, port):
-        self.case(b"X", struct.pack(">BBIIBBH", 4, i, number, prefix, length, kind, port))
+        self.alter(struct.pack(">BBIIBBH", 4, i, number, prefix, length, kind, port))
 
     def set_slot(self, i, number, rule):
         self.poke_slot(i, number, rule[0], rule[1], 1 if rule[2] else 0, rule[2])
@@ -222,10 +225,10 @@ class Drill(Calls):
         self.state.slots[i] = None
 
     def poke_entry(self, i, entry):
-        self.case(b"X", struct.pack(">BBIBH", 5, i, *entry))
+        self.alter(struct.pack(">BBIBH", 5, i, *entry))
 
     def poke_count(self, count):
-        self.case(b"X", bytes([6, count]))
+        self.alter(bytes([6, count]))
 
     def set_entries(self, entries):
         for i, e in enumerate(entries):
@@ -259,7 +262,7 @@ def setups(d):
         d.quorum(n)
     for id, n in ((0, 1), (15, 16), (5, 4), (16, 4), (5, 0), (5, 17), (255, 255), (0, 0)):
         d.setup(id, n)
-    d.store(0, 0)
+    d.keys_of(0, 0)
     every_call(d)
 
 
@@ -477,7 +480,7 @@ def stores(d):
     """21, after 20 and before all others."""
     d.start(2, 4)
     for length in d.some((0, 127, 129, 160), (1, 32, 96, 512, 544)):
-        d.store(2, length)
+        d.keys_of(2, length)
         d.share(0, 1, A)
         d.receive(b"")
         d.write(True, 0, 9, 0)
@@ -485,7 +488,7 @@ def stores(d):
         d.write(False, 0, 9, 2 ** 64 - 1)
     d.raise_event(3)
     d.look_up(0)
-    d.store(2, 128)
+    d.keys_of(2, 128)
     d.share(0, 1, A)
 
 
@@ -563,7 +566,6 @@ def drill(long):
         scene(d)
     for seed in d.some((), range(10)):
         at_random(d, seed, 80)
-    d.end()
     return d
 
 

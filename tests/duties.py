@@ -1,4 +1,4 @@
-"""Calls at one controller for the program duties, and what it must print, worked out from document 01 with Python's own
+"""Calls at one controller for the program drive, and what it must print, worked out from document 01 with Python's own
 library.
 
     python3 tests/duties.py stdin          the calls
@@ -99,8 +99,11 @@ class Book:
                 return self.changes[first:first + count]
         return []
 
+    def counts(self):
+        return " book %d %d" % (self.planned, self.listed)
+
     def show(self):
-        text = ""
+        text = self.counts()
         for i, q in enumerate(self.plans):
             if q != NO_PLAN:
                 text += " plan %d %d %d %d %d" % ((i,) + q)
@@ -140,7 +143,7 @@ class Controller:
         return self.book.good()
 
     def show(self):
-        text = " state %d %d %d book %d %d" % (self.id, self.n, self.last, self.book.planned, self.book.listed)
+        text = " state %d %d %d%s" % (self.id, self.n, self.last, self.book.counts())
         for name, numbers in (("acknowledged", self.acknowledged), ("serial", self.serials)):
             for s, k in enumerate(numbers):
                 if k:
@@ -227,34 +230,43 @@ class Duty(Calls):
     """Calls at one controller."""
 
     def __init__(self, long):
-        super().__init__(long, Controller())
+        super().__init__(long, "controller", Controller())
         self.book, self.keys = Book(), b""
 
     def replied(self, word, answer, offered="", more=""):
-        self.lines.append("%s %d%s%s%s" % (word, answer, offered, self.state.show(), more))
+        self.line("%s %d%s%s%s" % (word, answer, offered, self.state.show(), more))
         return answer
 
     def read(self, book):
-        self.case(b"B", book.bytes())
-        self.lines.append("read 0")
+        self.call("b", book.bytes())
+        self.line("read 0" + book.show())
         self.book = book
 
+    def read_first(self, book, more):
+        self.call("f", book.bytes() + more)
+        self.line("read first 0 %d%s" % (len(book.bytes()), book.show()))
+        self.book = book
+
+    def holds(self):
+        self.call("p", b"")
+        self.line("holds" + self.state.book.show())
+
     def setup(self, id, n):
-        self.case(b"S", bytes([id, n]))
+        self.call("s", bytes([id, n]))
         good = 1 <= n <= 16 and id < n
         self.state = Controller(id, n, self.book.copy()) if good else Controller()
-        self.replied("setup", 0 if good else 20, more=self.state.book.show())
+        self.replied("setup", 0 if good else 20)
+        self.holds()
 
-    def store(self, id, length):
-        self.case(b"K", struct.pack(">BH", id, length))
-        self.keys = b"".join(key(id, s) for s in range(17))[:length]
+    def keys_of(self, id, length):
+        self.store(b"".join(key(id, s) for s in range(17))[:length])
 
     def start(self, id, n):
         self.setup(id, n)
-        self.store(id, 512)
+        self.keys_of(id, 512)
 
     def receive(self, s):
-        self.case(b"M", s)
+        self.call("m", s)
         answer, offered = self.state.receive(self.keys, s)
         return self.replied("received", answer, offered)
 
@@ -265,42 +277,42 @@ class Duty(Calls):
         return self.receive(event(switch, self.state.id, serial, cause))
 
     def decide(self, switch, serial, cause):
-        self.case(b"D", struct.pack(">BIB", switch, serial, cause))
+        self.call("d", struct.pack(">BIB", switch, serial, cause))
         return self.replied("decided", self.state.decide(switch, serial, cause))
 
     def write(self, switch, length=48, offset=0):
-        self.case(b"W", struct.pack(">BBQ", length, switch, offset))
+        self.call("w", struct.pack(">BBQ", length, switch, offset))
         answer, frame = self.state.write(self.keys, length, switch, offset)
         return self.replied("written", answer, more=" frame " + frame.hex())
 
     # What a state is made to be, without a call.
 
     def set_acknowledged(self, switch, number):
-        self.case(b"X", struct.pack(">BBI", 3, switch, number))
+        self.alter(struct.pack(">BBI", 3, switch, number))
         self.state.acknowledged[switch] = number
 
     def set_serial(self, switch, serial):
-        self.case(b"X", struct.pack(">BBI", 4, switch, serial))
+        self.alter(struct.pack(">BBI", 4, switch, serial))
         self.state.serials[switch] = serial
 
     def set_place(self, i, u):
-        self.case(b"X", struct.pack(">BBIIBB", 5, i, *u[:4]) + rule_bytes(u[4]))
+        self.alter(struct.pack(">BBIIBB", 5, i, *u[:4]) + rule_bytes(u[4]))
         self.state.places[i] = u
 
     def set_count(self, count):
-        self.case(b"X", bytes([6, count]))
+        self.alter(bytes([6, count]))
         self.state.count = count
 
     def set_counts(self, planned, listed):
-        self.case(b"X", struct.pack(">BBH", 7, planned, listed))
+        self.alter(struct.pack(">BBH", 7, planned, listed))
         self.state.book.planned, self.state.book.listed = planned, listed
 
     def set_plan(self, i, plan):
-        self.case(b"X", struct.pack(">BBBBHB", 8, i, *plan))
+        self.alter(struct.pack(">BBBBHB", 8, i, *plan))
         self.state.book.plans[i] = plan
 
     def set_change(self, i, change):
-        self.case(b"X", struct.pack(">BHBB", 9, i, *change[:2]) + rule_bytes(change[2]))
+        self.alter(struct.pack(">BHBB", 9, i, *change[:2]) + rule_bytes(change[2]))
         self.state.book.changes[i] = change
 
 
@@ -312,10 +324,11 @@ EVENING = Book([((5, 1), [(0, 2, A), (0, 5, A), (1, 2, B), (1, 7, B), (2, 9, C)]
 
 def setups(d):
     """The ranges; a refused one is all zero, whatever playbook it was given."""
+    d.read_first(EVENING, b"\x13\x12")
     d.read(EVENING)
     for id, n in d.some(((3, 4), (4, 4), (0, 17)), ((0, 0), (0, 1), (1, 1), (15, 16), (16, 16), (255, 255), (0, 16))):
         d.setup(id, n)
-    d.store(0, 512)
+    d.keys_of(0, 512)
     d.receive(b"")
     d.write(0)
 
@@ -504,7 +517,7 @@ def stores(d):
     d.start(2, 4)
     d.decide(5, 1, 1)
     for length in d.some((128, 513), (0, 1, 32, 480, 511, 544)):
-        d.store(2, length)
+        d.keys_of(2, length)
         d.receive(b"")
         d.write(16, 0, 9)
         if d.long:
@@ -514,7 +527,7 @@ def stores(d):
     d.receive(b"")
     d.write(2)
     d.set_id(2)
-    d.store(2, 512)
+    d.keys_of(2, 512)
     if d.long:
         d.acknowledge(2, 1)
 
@@ -659,6 +672,12 @@ def at_random(d, seed, calls):
             d.write(switch, r.choice((48, 48, 48, 40)), r.randrange(20))
 
 
+def no_calls(d):
+    """A letter that calls for nothing, an end that there is not, and a call that is cut."""
+    d.script += b"?\0\0\0" + b"?\x10\0\0" + b"d\x10\0\1\0" + b"M\xff\0\0" + b"s\0\0\3\0\4"
+    d.lines += ["unknown call", "unknown call", "unknown end", "unknown end", "cut call"]
+
+
 def duty(long):
     d = Duty(long)
     for scene in (setups, questions, events, acknowledgements, decisions, readiness, writing, stores, limits, room):
@@ -667,7 +686,7 @@ def duty(long):
         at_random(d, seed, 80)
     if long:
         full(d)
-    d.end()
+    no_calls(d)
     return d
 
 

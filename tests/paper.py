@@ -21,39 +21,44 @@ def tag(secret, body):
 
 
 class Calls:
-    """Calls at one end: its state, the cases so far, as bytes, and the lines they must print."""
+    """Calls of the program drive at one end: its state, the script so far, and the lines that it must print."""
 
-    def __init__(self, long, state):
-        self.long, self.state = long, state
-        self.cases, self.lines = b"", []
+    def __init__(self, long, end, state):
+        self.long, self.end, self.state = long, end, state
+        self.script, self.lines = b"", []
 
     def some(self, few, many):
         """What every run has, and what only the long one has."""
         return tuple(few) + (tuple(many) if self.long else ())
 
-    def case(self, letter, body):
-        self.cases += letter + struct.pack(">H", len(body)) + body
+    def call(self, letter, body):
+        self.script += struct.pack(">BBH", ord(letter), 0, len(body)) + body
 
-    # What a state is made to be, without a call: the fields that both ends have.
+    def line(self, text):
+        self.lines.append("%s 0 %s" % (self.end, text))
+
+    def store(self, keys):
+        self.call("K" if self.end == "switch" else "k", keys)
+        self.keys = keys
+        self.line("keys %d" % len(keys))
+
+    # What a state is made to be: the fields that both ends have.
+
+    def alter(self, body):
+        self.call("X" if self.end == "switch" else "x", body)
+        self.line("altered")
 
     def set_id(self, id):
-        self.case(b"X", bytes([0, id]))
+        self.alter(bytes([0, id]))
         self.state.id = id
 
     def set_n(self, n):
-        self.case(b"X", bytes([1, n]))
+        self.alter(bytes([1, n]))
         self.state.n = n
 
     def set_last(self, last):
-        self.case(b"X", struct.pack(">BI", 2, last))
+        self.alter(struct.pack(">BI", 2, last))
         self.state.last = last
-
-    def end(self):
-        """A case of no kind, and one that is cut."""
-        self.case(b"?", b"")
-        self.lines.append("unknown case")
-        self.cases += b"S\0\1"
-        self.lines.append("cut case")
 
 
 def tell(doc, made):
@@ -63,6 +68,6 @@ def tell(doc, made):
         sys.exit(doc)
     calls = made(kind == "long")
     if part == "stdin":
-        sys.stdout.buffer.write(calls.cases)
+        sys.stdout.buffer.write(calls.script)
     else:
         print("\n".join(calls.lines))

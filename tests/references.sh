@@ -1,6 +1,6 @@
 #!/bin/sh
 # The cases of the test programs, and the lines they must print, are what tests/trials.py, drills.py and duties.py work
-# out from document 01 alone. The compiled drills and duties are then run on many more cases than their files have.
+# out from document 01 alone. The compiled drive is then run on many more calls than its file has.
 set -u
 export PYTHONDONTWRITEBYTECODE=1
 if ! command -v python3 >/dev/null; then
@@ -18,20 +18,20 @@ ended() {
     fi
 }
 
-for program in trials drills duties; do
-    for part in stdin stdout; do
-        python3 "tests/$program.py" "$part" | cmp -s - "crates/$program/$part"
-        ended $? "crates/$program/$part is not what tests/$program.py works out"
-    done
+for part in stdin stdout; do
+    python3 tests/trials.py "$part" | cmp -s - "crates/trials/$part"
+    ended $? "crates/trials/$part is not what tests/trials.py works out"
+    { python3 tests/drills.py "$part" && python3 tests/duties.py "$part"; } | cmp -s - "crates/drive/$part"
+    ended $? "crates/drive/$part is not what tests/drills.py and tests/duties.py work out"
 done
 
 work=${TMPDIR:-/tmp}/references.$$
 mkdir "$work" || exit 1
-for program in drills duties; do
-    python3 "tests/$program.py" stdout long >"$work/expected"
-    python3 "tests/$program.py" stdin long | "target/bin/$program" >"$work/printed"
+for calls in drills duties; do
+    python3 "tests/$calls.py" stdout long >"$work/expected"
+    python3 "tests/$calls.py" stdin long | target/bin/drive >"$work/printed"
     [ -s "$work/expected" ] && cmp "$work/expected" "$work/printed"
-    ended $? "$program does not print what tests/$program.py works out for the long list of calls"
+    ended $? "drive does not print what tests/$calls.py works out for the long list of calls"
 done
 rm -rf "$work"
 

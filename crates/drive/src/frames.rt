@@ -1,0 +1,33 @@
+// The outgoing frame of a writing call: which part of it is lent, and all of it printed.
+ghost use Prim.Native.Nat.{_≤_};
+use cases::say;
+use cases::say_hex;
+use cases::u32_at;
+use lists::byte_at;
+
+// How many bytes the frame has.
+pub(crate) const SIZE: usize = 48;
+
+pub(crate) fn at_most(n: usize, limit: usize) -> usize
+    ensures { λ r. ⌜ r ≤ limit ⌝ }
+{
+    if n < limit { n } else { limit }
+}
+
+// How many of its bytes are lent: as many as the body's first byte says.
+pub(crate) fn lent_of(body: &[u8]) -> usize
+    ensures { λ r. ⌜ r ≤ 48 ⌝ }
+{
+    at_most(byte_at(body, 0) as usize, SIZE)
+}
+
+// The offset, eight bytes after the receiver's.
+pub(crate) fn offset_of(body: &[u8]) -> usize {
+    let wide = (u32_at(body, 2) as u64) * 4294967296 + (u32_at(body, 6) as u64);
+    wide as usize
+}
+
+pub(crate) fn say_frame(frame: &[u8; SIZE]) {
+    say(b" frame ");
+    say_hex(frame);
+}

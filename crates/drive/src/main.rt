@@ -1,0 +1,212 @@
+// Makes the calls of a script at switches and controllers, and prints a line for each: the answer, what was found, the
+// frame and the fields of the state. docs/DRIVE.md tells the script and the lines.
+mod books;
+mod controllers;
+mod frames;
+mod stores;
+mod switches;
+
+ghost use mathlib.Core.Path.{_≡_};
+ghost use lib.ListN.{length};
+use cases::say;
+use cases::say_byte;
+use cases::say_size;
+use cases::u16_at;
+use controller::Controller;
+use libc::STDIN_FILENO;
+use lists::byte_at;
+use playbook::Playbook;
+use stores::Store;
+use switch::Switch;
+
+// The longest script, and one byte further to tell a longer one.
+const SCRIPT: usize = 1048577;
+
+// The ends, the key store of each, and the playbook read last.
+struct World {
+    switches: [Switch; 16],
+    controllers: [Controller; 16],
+    switch_keys: [Store; 16],
+    controller_keys: [Store; 16],
+    book: Playbook,
+}
+
+// What a letter calls for.
+enum Call {
+    Unknown,
+    AtSwitch,
+    AtController,
+    SwitchKeys,
+    ControllerKeys,
+    Book,
+}
+
+fn call_of(letter: u8) -> Call {
+    match letter {
+        b'S' => Call::AtSwitch,
+        b'M' => Call::AtSwitch,
+        b'R' => Call::AtSwitch,
+        b'I' => Call::AtSwitch,
+        b'E' => Call::AtSwitch,
+        b'A' => Call::AtSwitch,
+        b'L' => Call::AtSwitch,
+        b'T' => Call::AtSwitch,
+        b'Q' => Call::AtSwitch,
+        b'X' => Call::AtSwitch,
+        b'K' => Call::SwitchKeys,
+        b's' => Call::AtController,
+        b'm' => Call::AtController,
+        b'd' => Call::AtController,
+        b'w' => Call::AtController,
+        b'p' => Call::AtController,
+        b'x' => Call::AtController,
+        b'k' => Call::ControllerKeys,
+        b'b' => Call::Book,
+        b'f' => Call::Book,
+        _ => Call::Unknown,
+    }
+}
+
+fn say_end(name: &[u8], end: u8) {
+    say(name);
+    say_byte(end);
+}
+
+// A call at an end that there is not.
+fn say_unknown(letter: u8) {
+    match call_of(letter) {
+        Call::Unknown => say(b"unknown call\n"),
+        _ => say(b"unknown end\n"),
+    }
+}
+
+fn at_switch(s: Switch, store: Store, letter: u8, end: u8, body: &[u8]) -> Switch {
+    say_end(b"switch", end);
+    let next = switches::call(s, store, letter, body);
+    say(b"\n");
+    next
+}
+
+fn at_controller(
+    c: Controller,
+    book: Playbook,
+    store: Store,
+    letter: u8,
+    end: u8,
+    body: &[u8],
+) -> Controller {
+    say_end(b"controller", end);
+    let next = controllers::call(c, book, store, letter, body);
+    say(b"\n");
+    next
+}
+
+fn keys_of(name: &[u8], end: u8, body: &[u8]) -> Store {
+    say_end(name, end);
+    let store = stores::store_of(body);
+    say(b" keys");
+    say_size(store.length);
+    say(b"\n");
+    store
+}
+
+fn book_of(letter: u8, end: u8, body: &[u8]) -> Playbook {
+    say_end(b"controller", end);
+    let book = books::read(letter, body);
+    say(b"\n");
+    book
+}
+
+// Before the first call: no end is set up, no end has a key, and the playbook is the empty one.
+fn begun() -> World {
+    let book = playbook::empty();
+    let first = switch::setup(0, 0);
+    let s = first.state;
+    let second = controller::setup(0, 0, book);
+    let c = second.state;
+    let store = stores::empty();
+    World {
+        switches: [s; 16],
+        controllers: [c; 16],
+        switch_keys: [store; 16],
+        controller_keys: [store; 16],
+        book: book,
+    }
+}
+
+// Each call is made on what it names, taken out of the world and put back: the world is large, and stays where it is.
+fn follow(script: &[u8]) {
+    let mut world = begun();
+    let mut rest = script;
+    while 4 <= rest.len() {
+        let letter = byte_at(rest, 0);
+        let end = byte_at(rest, 1);
+        let n = u16_at(rest, 2) as usize;
+        let from = &rest[4..];
+        if from.len() < n {
+            break;
+        }
+        let body = &from[0..n];
+        let i = end as usize;
+        if 16 <= i {
+            say_unknown(letter);
+            rest = &from[n..];
+        } else {
+            match call_of(letter) {
+                Call::Unknown => {
+                    say(b"unknown call\n");
+                    rest = &from[n..];
+                }
+                Call::AtSwitch => {
+                    let s = world.switches[i];
+                    let store = world.switch_keys[i];
+                    let next = at_switch(s, store, letter, end, body);
+                    world.switches[i] = next;
+                    rest = &from[n..];
+                }
+                Call::AtController => {
+                    let c = world.controllers[i];
+                    let store = world.controller_keys[i];
+                    let book = world.book;
+                    let next = at_controller(c, book, store, letter, end, body);
+                    world.controllers[i] = next;
+                    rest = &from[n..];
+                }
+                Call::SwitchKeys => {
+                    let store = keys_of(b"switch", end, body);
+                    world.switch_keys[i] = store;
+                    rest = &from[n..];
+                }
+                Call::ControllerKeys => {
+                    let store = keys_of(b"controller", end, body);
+                    world.controller_keys[i] = store;
+                    rest = &from[n..];
+                }
+                Call::Book => {
+                    let book = book_of(letter, end, body);
+                    world.book = book;
+                    rest = &from[n..];
+                }
+            }
+        }
+    }
+    if 0 < rest.len() {
+        say(b"cut call\n");
+    }
+}
+
+fn for_script() -> [u8; SCRIPT]
+    ensures { λ r. ⌜ 1048577 ≡ length r ⌝ }
+{
+    [0u8; SCRIPT]
+}
+
+fn main() {
+    let mut space = for_script();
+    let n = io::read_full(STDIN_FILENO, &mut space);
+    if n == SCRIPT {
+        say(b"script too long\n");
+    } else {
+        follow(&space[..n]);
+    }
+}

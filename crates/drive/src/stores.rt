@@ -1,0 +1,33 @@
+// Key stores of any length up to one key more than a controller's.
+const SPACE: usize = 544;
+
+pub(crate) struct Store {
+    pub(crate) bytes: [u8; SPACE],
+    pub(crate) length: usize,
+}
+
+pub(crate) fn empty() -> Store {
+    Store {
+        bytes: [0; SPACE],
+        length: 0,
+    }
+}
+
+// The bytes, or as many of them as there is space for.
+pub(crate) fn store_of(s: &[u8]) -> Store {
+    let mut bytes = [0u8; SPACE];
+    let mut i: usize = 0;
+    while i < SPACE && i < s.len() {
+        bytes[i] = s[i];
+        i += 1;
+    }
+    Store {
+        bytes: bytes,
+        length: i,
+    }
+}
+
+// The first n bytes, or all where there are fewer.
+pub(crate) fn front(s: &[u8], n: usize) -> &[u8] {
+    if n < s.len() { &s[0..n] } else { s }
+}
