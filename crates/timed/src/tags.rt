@@ -1,16 +1,10 @@
 // Hashes and HMACs of bytes.
-use std::num::wrapping_add_u64;
+use crate::turns::mix;
+use crate::turns::stir;
 
-// A number that changes with the first bytes of a hash.
-fn front(d: [u8; 32]) -> u64 {
-    lists::u32_of(d[0], d[1], d[2], d[3]) as u64
-}
-
-// The first byte is replaced, so that no two calls in a row are of the same bytes.
-fn stir(m: &mut [u8], x: u8) {
-    if 0 < m.len() {
-        m[0] = x;
-    }
+// A number of the first bytes of a hash.
+fn front(d: [u8; 32]) -> u32 {
+    lists::u32_of(d[0], d[1], d[2], d[3])
 }
 
 // SHA-256 of the bytes, each time with the first byte of the last hash at their front.
@@ -20,8 +14,8 @@ pub extern "C" fn timed_sha256(m: &mut [u8], times: u32) -> u64 {
     let mut i: u32 = 0;
     while i < times {
         let d = tag::sha256(m);
-        stir(m, d[0]);
-        sum = wrapping_add_u64(sum, front(d));
+        stir(m, 0, d[0]);
+        sum = mix(sum, front(d));
         i += 1;
     }
     sum
@@ -34,8 +28,8 @@ pub extern "C" fn timed_hmac(key: &[u8], m: &mut [u8], times: u32) -> u64 {
     let mut i: u32 = 0;
     while i < times {
         let d = tag::hmac(key, m);
-        stir(m, d[0]);
-        sum = wrapping_add_u64(sum, front(d));
+        stir(m, 0, d[0]);
+        sum = mix(sum, front(d));
         i += 1;
     }
     sum

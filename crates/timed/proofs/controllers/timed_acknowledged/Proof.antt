@@ -1,0 +1,17 @@
+-- The turns left fall. Assumes nothing.
+use Prim.Native.Nat.{_-_, _≤_}
+use borrow.Author.Needs.{needs}
+use Rattle.timed.proofs.controllers.timed_acknowledged.Statement.{statement}
+use Rattle.timed.proofs.controllers.timed_acknowledged.Tie as tie
+
+abbrev Inv-loop : tie.InvT-loop
+Inv-loop id n keys book switch cause decisions acknowledgements times state sum₀ i₀ sum i = i ≤ times
+
+abbrev μ-loop : tie.MeasureT-loop
+μ-loop id n keys book switch cause decisions acknowledgements times state sum₀ i₀ sum i = times - i
+
+pub timed-acknowledged-spec : {M : Type 1} → statement M
+timed-acknowledged-spec =
+    tie.close
+    (tie.spec Inv-loop μ-loop (λ c κs. search needs) (λ c κs. search needs) (λ c. search needs) (λ c κs. search needs)
+    (λ c κs. search needs) (λ c. search needs) (λ c. search needs) (λ c. search needs) (λ c. search needs))

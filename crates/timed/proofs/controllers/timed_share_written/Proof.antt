@@ -1,0 +1,22 @@
+-- The frame keeps its length, and the turns left fall. Assumes nothing.
+use mathlib.Core.Path.{_≡_}
+use Prim.Native.Nat.{_-_, _≤_}
+use native.Mathlib.Omega.{arith}
+use lib.ListN.{length}
+use borrow.Author.Needs.{needs}
+use Rattle.timed.proofs.controllers.timed_share_written.Statement.{statement}
+use Rattle.timed.proofs.controllers.timed_share_written.Tie as tie
+
+abbrev Inv-loop : tie.InvT-loop
+Inv-loop id n keys book switch cause decisions receiver frame₀ at times state sum₀ i₀ frame sum i = (i ≤ times) × (length frame ≡ length frame₀)
+
+abbrev μ-loop : tie.MeasureT-loop
+μ-loop id n keys book switch cause decisions receiver frame₀ at times state sum₀ i₀ frame sum i = times - i
+
+pub timed-share-written-spec : {M : Type 1} → statement M
+timed-share-written-spec =
+    tie.close
+    (tie.spec Inv-loop μ-loop (λ c κs. search needs) (λ c κs. search needs) (λ c. search needs) (λ c κs. search needs)
+    (λ c κs. search needs)
+    (λ c. omega (arith, c .before .before .before .before .before .loop-test .taken, c .before .before .before .before .before .before .before .before .before .before .before .before .before .fits .times))
+    (λ c. search needs) (λ c. search needs) (λ c. search needs) (λ c. search needs))

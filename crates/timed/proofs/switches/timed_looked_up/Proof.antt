@@ -1,0 +1,18 @@
+-- The turns left fall. Assumes nothing.
+use Prim.Native.Nat.{_-_, _≤_}
+use borrow.Author.Needs.{needs}
+use Rattle.timed.proofs.switches.timed_looked_up.Statement.{statement}
+use Rattle.timed.proofs.switches.timed_looked_up.Tie as tie
+
+abbrev Inv-loop : tie.InvT-loop
+Inv-loop id n keys filling step times state₀ address₀ sum₀ i₀ state address sum i = i ≤ times
+
+abbrev μ-loop : tie.MeasureT-loop
+μ-loop id n keys filling step times state₀ address₀ sum₀ i₀ state address sum i = times - i
+
+pub timed-looked-up-spec : {M : Type 1} → statement M
+timed-looked-up-spec =
+    tie.close
+    (tie.spec Inv-loop μ-loop (λ c κs. search needs) (λ c. search needs) (λ c κs. search needs) (λ c κs. search needs)
+    (λ c. search needs) (λ c κs. search needs) (λ c κs. search needs) (λ c κs. search needs) (λ c. search needs)
+    (λ c. search needs) (λ c. search needs) (λ c. search needs))
