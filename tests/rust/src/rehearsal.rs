@@ -1,0 +1,238 @@
+//! The rehearsal program (document 01, "Rehearsal program"): what it prints for an input.
+
+use crate::controller::Controller;
+use crate::message::{is_switch, Fields, ACKNOWLEDGEMENT_LENGTH, KEY_LENGTH, SHARE_LENGTH};
+use crate::playbook::{self, Playbook};
+use crate::switch::Switch;
+use crate::{ask, Question, DONE, ENDS};
+use std::fmt::Write;
+
+/// How many bytes a script has at most.
+pub const SCRIPT: usize = 8192;
+/// How many places there are for kept shares.
+pub const PLACES: usize = 64;
+
+/// What a record answers, and its figure.
+type Line = (u8, u32);
+
+/// What the program prints for its standard input, whole.
+pub fn rehearse(input: &[u8]) -> String {
+    match begin(input) {
+        Ok((mut world, script)) => world.play(script),
+        Err(fault) => format!("0 {fault} 0\n"),
+    }
+}
+
+/// The faults before the script, in order: no first byte, n, the playbook's refusal, script too long.
+fn begin(input: &[u8]) -> Result<(World, &[u8]), u8> {
+    let (&n, rest) = input.split_first().ok_or(Question::Whole.number())?;
+    if !(1..=ENDS).contains(&(n as usize)) {
+        return Err(Question::Limits.number());
+    }
+    let (answer, used, book) = playbook::read_first(rest);
+    if answer != DONE {
+        return Err(answer);
+    }
+    let script = &rest[used..];
+    ask(Question::ScriptLength, script.len() <= SCRIPT).map_err(Question::number)?;
+    Ok((World::setup(n, &book), script))
+}
+
+/// A record of the script.
+enum Record<'a> {
+    Decide { controller: u8, switch: u8, serial: u32, cause: u8 },
+    Send { controller: u8, switch: u8 },
+    Report { switch: u8, controller: u8 },
+    Raw { switch: u8, share: &'a [u8] },
+    Keep { controller: u8, switch: u8, place: u8 },
+    Deliver { place: u8 },
+}
+
+impl<'a> Record<'a> {
+    /// Takes the first record off a script that has a byte left: questions 31 and 30.
+    fn take(script: &mut &'a [u8]) -> Result<Record<'a>, Question> {
+        let kind = *script.first().ok_or(Question::Whole)?;
+        let length = Record::length(kind).ok_or(Question::KindKnown)?;
+        let (record, rest) = script.split_at_checked(length).ok_or(Question::Whole)?;
+        *script = rest;
+        let mut fields = Fields::new(&record[1..]);
+        Ok(match kind {
+            0x21 => Record::Decide {
+                controller: fields.byte(),
+                switch: fields.byte(),
+                serial: fields.long(),
+                cause: fields.byte(),
+            },
+            0x22 => Record::Send { controller: fields.byte(), switch: fields.byte() },
+            0x23 => Record::Report { switch: fields.byte(), controller: fields.byte() },
+            0x24 => Record::Raw { switch: fields.byte(), share: &record[2..] },
+            0x25 => Record::Keep { controller: fields.byte(), switch: fields.byte(), place: fields.byte() },
+            _ => Record::Deliver { place: fields.byte() },
+        })
+    }
+
+    /// The length of a kind of record, for the kinds that are known.
+    fn length(kind: u8) -> Option<usize> {
+        match kind {
+            0x21 => Some(8),
+            0x22 | 0x23 => Some(3),
+            0x24 => Some(2 + SHARE_LENGTH),
+            0x25 => Some(4),
+            0x26 => Some(2),
+            _ => None,
+        }
+    }
+}
+
+/// A share that was kept, and the switch it is for.
+#[derive(Clone, Copy)]
+struct Kept {
+    switch: u8,
+    share: [u8; SHARE_LENGTH],
+}
+
+/// The ends of a rehearsal, their key stores, and the places.
+struct World {
+    switches: Vec<Switch>,
+    controllers: Vec<Controller>,
+    switch_keys: Vec<Vec<u8>>,
+    controller_keys: Vec<Vec<u8>>,
+    kept: [Option<Kept>; PLACES],
+}
+
+impl World {
+    /// All ends set up with the same n and playbook.
+    fn setup(n: u8, book: &Playbook) -> World {
+        let switch_keys = |switch: u8| (0..n).flat_map(|controller| key(controller, switch)).collect();
+        let controller_keys = |controller: u8| switches().flat_map(|switch| key(controller, switch)).collect();
+        World {
+            switches: switches().map(|id| Switch::setup(id, n).1).collect(),
+            controllers: (0..n).map(|id| Controller::setup(id, n, book.clone()).1).collect(),
+            switch_keys: switches().map(switch_keys).collect(),
+            controller_keys: (0..n).map(controller_keys).collect(),
+            kept: [None; PLACES],
+        }
+    }
+
+    /// Plays a script: a line for each record. An unknown kind or a cut record stops it, with a line of its own.
+    fn play(&mut self, mut script: &[u8]) -> String {
+        let mut printed = String::new();
+        let mut ordinal = 0;
+        while !script.is_empty() {
+            ordinal += 1;
+            let (answer, figure) = match Record::take(&mut script) {
+                Ok(record) => self.perform(record).unwrap_or_else(without_figure),
+                Err(question) => {
+                    script = &[];
+                    without_figure(question)
+                }
+            };
+            let _ = writeln!(printed, "{ordinal} {answer} {figure}");
+        }
+        printed
+    }
+
+    /// What a record gives; a question about the record's own ids and place has no figure.
+    fn perform(&mut self, record: Record) -> Result<Line, Question> {
+        match record {
+            Record::Decide { controller, switch, serial, cause } => self.decide(controller, switch, serial, cause),
+            Record::Send { controller, switch } => self.send(controller, switch),
+            Record::Report { switch, controller } => self.report(switch, controller),
+            Record::Raw { switch, share } => self.raw(switch, share),
+            Record::Keep { controller, switch, place } => self.keep(controller, switch, place),
+            Record::Deliver { place } => self.deliver(place),
+        }
+    }
+
+    fn decide(&mut self, controller: u8, switch: u8, serial: u32, cause: u8) -> Result<Line, Question> {
+        self.ask_ids(controller, switch)?;
+        let answer = self.controllers[controller as usize].decide(switch, serial, cause);
+        Ok((answer, self.undone(controller)))
+    }
+
+    fn send(&mut self, controller: u8, switch: u8) -> Result<Line, Question> {
+        self.ask_ids(controller, switch)?;
+        let (answer, share) = self.make_share(controller, switch);
+        if answer != DONE {
+            return Ok((answer, self.applied(switch)));
+        }
+        Ok(self.hand_over(switch, &share))
+    }
+
+    fn report(&mut self, switch: u8, controller: u8) -> Result<Line, Question> {
+        self.ask_ids(controller, switch)?;
+        let (from, to) = (switch as usize, controller as usize);
+        let mut frame = [0; ACKNOWLEDGEMENT_LENGTH];
+        let mut answer = self.switches[from].write_acknowledgement(&self.switch_keys[from], controller, &mut frame, 0);
+        if answer == DONE {
+            (answer, _) = self.controllers[to].receive(&self.controller_keys[to], &frame);
+        }
+        Ok((answer, self.undone(controller)))
+    }
+
+    fn raw(&mut self, switch: u8, share: &[u8]) -> Result<Line, Question> {
+        ask(Question::Known, is_switch(switch))?;
+        Ok(self.hand_over(switch, share))
+    }
+
+    fn keep(&mut self, controller: u8, switch: u8, place: u8) -> Result<Line, Question> {
+        self.ask_ids(controller, switch)?;
+        ask(Question::Place, (place as usize) < PLACES)?;
+        let (answer, share) = self.make_share(controller, switch);
+        if answer == DONE {
+            self.kept[place as usize] = Some(Kept { switch, share });
+        }
+        Ok((answer, self.applied(switch)))
+    }
+
+    fn deliver(&mut self, place: u8) -> Result<Line, Question> {
+        let kept = self.kept.get(place as usize).ok_or(Question::Place)?;
+        let Kept { switch, share } = kept.ok_or(Question::Present)?;
+        Ok(self.hand_over(switch, &share))
+    }
+
+    /// Are both ids in the domain?
+    fn ask_ids(&self, controller: u8, switch: u8) -> Result<(), Question> {
+        ask(Question::Known, (controller as usize) < self.controllers.len() && is_switch(switch))
+    }
+
+    /// A controller's current share for a switch.
+    fn make_share(&self, controller: u8, switch: u8) -> (u8, [u8; SHARE_LENGTH]) {
+        let from = controller as usize;
+        let mut frame = [0; SHARE_LENGTH];
+        let answer = self.controllers[from].write_share(&self.controller_keys[from], switch, &mut frame, 0);
+        (answer, frame)
+    }
+
+    /// Delivers a share: the switch's answer, and its last applied number.
+    fn hand_over(&mut self, switch: u8, share: &[u8]) -> Line {
+        let to = switch as usize;
+        let answer = self.switches[to].receive(&self.switch_keys[to], share);
+        (answer, self.applied(switch))
+    }
+
+    fn applied(&self, switch: u8) -> u32 {
+        self.switches[switch as usize].last
+    }
+
+    fn undone(&self, controller: u8) -> u32 {
+        self.controllers[controller as usize].undone.used().len() as u32
+    }
+}
+
+/// The ids of the switches.
+fn switches() -> std::ops::Range<u8> {
+    0..ENDS as u8
+}
+
+/// The key of a controller and a switch in a rehearsal.
+fn key(controller: u8, switch: u8) -> [u8; KEY_LENGTH] {
+    let mut key = [0; KEY_LENGTH];
+    key[..2].copy_from_slice(&[controller, switch]);
+    key
+}
+
+/// A refused record's line.
+fn without_figure(question: Question) -> Line {
+    (question.number(), 0)
+}
