@@ -130,17 +130,17 @@ fn next(w: &[u32; 64], t: usize) -> u32
     )
 }
 
-fn expand(m: [u32; 64]) -> [u32; 64]
-    ensures { λ r. ⌜ r ≡ sha.schedule (take 16 m) 48 ⌝ }
+// Eight words more of a schedule, from word t on.
+fn extend(w: &mut [u32; 64], t: usize)
+    requires { ⌜ (16 ≤ t) × (t + 8 ≤ 64) × (length (now w) ≡ 64) ⌝ }
+    ensures { λ _. ⌜ (length (now (w .exit)) ≡ 64) × sha.Extends (now (w .entry)) t (now (w .exit)) ⌝ }
 {
-    let mut w = m;
-    let mut t: usize = 16;
-    while t < 64 {
-        let x = next(&w, t);
-        w[t] = x;
-        t += 1;
+    let mut i = t;
+    while i < t + 8 {
+        let x = next(w, i);
+        w[i] = x;
+        i += 1;
     }
-    w
 }
 
 fn round(s: State, k: u32, w: u32) -> State
@@ -179,15 +179,21 @@ fn eight(s: State, k: &[u32; 64], w: &[u32; 64], t: usize) -> State
     two(c, k, w, t + 6)
 }
 
-fn rounds(s: State, w: [u32; 64]) -> State
-    ensures { λ r. ⌜ r ≡ sha.rounds s w 64 ⌝ }
+// The rounds of a block whose words stand first. Eight words more of the schedule are made after each eight rounds, while
+// these are still under way in the processor.
+fn rounds(s: State, m: [u32; 64]) -> State
+    ensures { λ r. ⌜ r ≡ sha.rounds s (sha.schedule (take 16 m) 48) 64 ⌝ }
 {
     let k = K;
+    let mut w = m;
     let mut r = s;
     let mut t: usize = 0;
     while t < 64 {
         let n = eight(r, &k, &w, t);
         r = n;
+        if t < 48 {
+            extend(&mut w, t + 16);
+        }
         t += 8;
     }
     r
@@ -213,5 +219,5 @@ pub(crate) fn compress(s: State, m: &[u8]) -> State
     requires { ⌜ length (now m) ≡ 64 ⌝ }
     ensures { λ r. ⌜ r ≡ sha.compress s (now (m .entry)) ⌝ }
 {
-    sums(s, rounds(s, expand(words(m))))
+    sums(s, rounds(s, words(m)))
 }
