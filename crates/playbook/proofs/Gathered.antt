@@ -9,17 +9,19 @@ use native.Mathlib.Omega.{arith}
 use lib.Dec.{leb, eqb}
 use lib.ListN.{length, take, drop, set, getD, replicate, length-set, length-append, getD-replicate}
 use lib.Seq.{take-suc-set, getD-set-same, getD-set-other}
-use borrow.Author.Tests.{eqb-true, eq-eqb, le-leb, lt-leb}
+use borrow.Author.Tests.{eqb-true, eq-eqb, leb-true, le-leb, lt-leb}
 use Rattle.answer.proofs.Bools.{by-bool, by-eq, and-join, same-test}
+use Rattle.lists.specs.Arrays.{every}
 use Rattle.lists.specs.Kinds.{among, kinds}
-use Rattle.lists.proofs.Members.{among-snoc, kinds-known, kinds-new, kinds-more}
+use Rattle.lists.proofs.Members.{among-snoc, kinds-known, kinds-new, kinds-more, kinds-few}
+use Rattle.lists.proofs.Tails.{every-at}
 use Rattle.flow.specs.Rules.{Key, ruleKey, sameKey}
 use Rattle.flow.proofs.Order.{key-sound}
 use Rattle.playbook.specs.Limits.{maxKeys, switchCount}
 use Rattle.playbook.specs.Books.{keysOn, kindsOn}
 use Rattle.playbook.specs.Storing.{fewKeysBelow, keyNumber, Counted}
 use Rattle.playbook.specs.declared.Change.{Change}
-use Rattle.playbook.proofs.Few.{keys-on, keys-off}
+use Rattle.playbook.proofs.Few.{keys-on, keys-off, few-all}
 
 -- a key's number tells it from the others, since a length is a byte
 number-same : (j k : Key) → j .1 < 256 → k .1 < 256 → eqb (keyNumber j) (keyNumber k) ≡ sameKey j k
@@ -129,6 +131,14 @@ module _ {counts next : List ℕ} {cs : List Change} (t : Tally counts cs) (c : 
     full = rw e (t .full);
     each = λ s h. rw (e, keys-off s cs c (λ q. omega arith)) (t .each s h);
   }
+
+-- where no switch has many changes, none has many keys
+pub tally-few : {counts : List ℕ} {cs : List Change} → Tally counts cs → every (λ k. leb k maxKeys) counts ≡ true
+    → fewKeysBelow switchCount cs ≡ true
+tally-few {counts} {cs} t h =
+    few-all switchCount cs
+    (λ s l. let small = every-at (λ k. leb k maxKeys) counts s 0 h (omega (arith, t .full)) in
+    omega (arith, t .each s l, kinds-few sameKey (keysOn s cs), leb-true (getD counts s 0) maxKeys small))
 
 -- a turn of the loop over the switches
 pub few-step : (s : ℕ) (cs : List Change) → 0 < s

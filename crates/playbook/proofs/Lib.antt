@@ -1,4 +1,4 @@
--- Laws of playbooks. Gathered, Steps and Past are for this crate alone.
+-- Laws of playbooks. Marked, Walked, Gathered, Steps and Past are for this crate alone.
 pub mod Sound
 pub mod Questions
 pub mod Spans
@@ -9,6 +9,8 @@ pub mod Printed
 pub mod Exact
 pub mod Front
 pub mod Ranges
+mod Marked
+mod Walked
 mod Gathered
 mod Steps
 mod Past

@@ -4,6 +4,7 @@ ghost use Prim.Native.Nat.{_≤_};
 ghost use lib.Dec.{leb, eqb};
 ghost use lib.ListN.{length, take};
 ghost use Rattle.flow.specs.Rules.{ruleKey};
+ghost use Rattle.lists.specs.Arrays.{every};
 ghost use Rattle.lists.specs.Kinds.{among};
 ghost use Rattle.playbook.specs.Limits.{maxChanges, maxKeys, switchCount};
 ghost use Rattle.playbook.specs.Books.{kindsOn};
@@ -60,31 +61,29 @@ pub(crate) fn keys_fit(changes: [Change; limits::CHANGES], n: usize, switch: u8)
     true
 }
 
-// How many of the first n changes are on each switch.
-fn counts(changes: [Change; limits::CHANGES], n: usize) -> [usize; limits::PLACES]
-    requires { ⌜ n ≤ maxChanges ⌝ }
-    ensures { λ r. ⌜ Counted r (take n changes) ⌝ }
+// Whether no switch has more changes than it may have keys.
+pub(crate) fn few_on(on: &[usize]) -> bool
+    ensures { λ r. ⌜ r ≡ every (λ k. leb k maxKeys) (now (on .entry)) ⌝ }
 {
-    let mut out = [0usize; limits::PLACES];
     let mut i: usize = 0;
-    while i < n {
-        let c = changes[i];
-        if c.switch < limits::SWITCHES {
-            let s = c.switch as usize;
-            out[s] = out[s] + 1;
+    while i < on.len() {
+        if limits::KEYS < on[i] {
+            return false;
         }
         i += 1;
     }
-    out
+    true
 }
 
-// Whether no switch has too many different keys. A switch with few changes has few keys, so in most playbooks no two
-// changes are compared.
-pub(crate) fn keys_ok(changes: [Change; limits::CHANGES], n: usize) -> bool
-    requires { ⌜ n ≤ maxChanges ⌝ }
+// Whether no switch has too many different keys. A switch with few changes has few keys.
+pub(crate) fn keys_ok(
+    changes: [Change; limits::CHANGES],
+    n: usize,
+    on: [usize; limits::PLACES],
+) -> bool
+    requires { ⌜ (n ≤ maxChanges) × Counted on (take n changes) ⌝ }
     ensures { λ r. ⌜ r ≡ fewKeysBelow switchCount (take n changes) ⌝ }
 {
-    let on = counts(changes, n);
     let mut s = limits::SWITCHES;
     while 0 < s {
         s -= 1;

@@ -12,6 +12,10 @@ pub(crate) const KEYS: usize = 64;
 pub(crate) const SWITCHES: u8 = 16;
 // One place for each switch.
 pub(crate) const PLACES: usize = 16;
+// One place for each switch and cause.
+pub(crate) const TRIGGERS: usize = 4096;
+
+pub(crate) const CAUSES: usize = 256;
 
 // Kinds of records.
 pub(crate) const PLAN: u8 = 0x11;

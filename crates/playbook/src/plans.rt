@@ -1,8 +1,8 @@
 // Triggers, and the plan of a switch and cause.
 ghost use mathlib.Core.Path.{_≡_};
-ghost use Prim.Native.Nat.{_≤_};
+ghost use Prim.Native.Nat.{_+_, _*_, _≤_, _<_};
 ghost use lib.ListN.{take, drop};
-ghost use Rattle.playbook.specs.Limits.{maxPlans};
+ghost use Rattle.playbook.specs.Limits.{maxPlans, switchCount};
 ghost use Rattle.playbook.specs.Books.{meaning, triggerOf, sameTrigger, hasTrigger, newPlan};
 ghost use Rattle.playbook.specs.Plans.{planOf};
 use crate::Plan;
@@ -17,6 +17,14 @@ pub(crate) fn is_trigger(q: Plan, switch: u8, cause: u8) -> bool
     } else {
         false
     }
+}
+
+// The place of a trigger among flags for all of them.
+pub(crate) fn trigger_place(switch: u8, cause: u8) -> usize
+    requires { ⌜ switch < switchCount ⌝ }
+    ensures { λ r. ⌜ (r ≡ switch * 256 + cause) × (cause < 256) ⌝ }
+{
+    (switch as usize) * limits::CAUSES + (cause as usize)
 }
 
 // Whether one of the first n plans, from a place on, has this trigger.

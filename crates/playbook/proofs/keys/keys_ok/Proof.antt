@@ -26,7 +26,7 @@ abbrev μ-loop : tie.MeasureT-loop
 
 -- a turn tests the switch below s, and leaves those below it
 turn : (c : tie.In-loop Inv-loop μ-loop)
-    → let a = c .before .before .before .args in
+    → let a = c .before .before .args in
     let s = c .before .loop .s in
     let cs = take (a .n) (a .changes) in
     fewKeysBelow switchCount cs ≡ (leb (kindsOn (s - 1) cs) maxKeys && fewKeysBelow (s - 1) cs)
@@ -44,23 +44,23 @@ loop-again c = (
 
 loop-again-2 : tie.Need-loop-again-2 Inv-loop μ-loop
 loop-again-2 c =
-    let a = c .before .before .before .before .args in
+    let a = c .before .before .before .args in
     let s = c .before .before .loop .s - 1 in
     let cs = take (a .n) (a .changes) in
-    let few : kindsOn s cs ≤ maxKeys =
-    omega (arith, c .before .before .before .counts .ensures s (omega arith), kinds-few sameKey (keysOn s cs)) in
+    let counted = c .before .before .before .pre .1 s (omega arith) in
+    let few : kindsOn s cs ≤ maxKeys = omega (arith, counted, kinds-few sameKey (keysOn s cs)) in
     (omega arith, turn (c .before) ∙ rw (le-leb _ _ few))
 
 returns-2 : tie.Need-returns-2 Inv-loop μ-loop
 unfolding fewKeysBelow
 returns-2 c =
-    let a = c .before .before .before .args in
+    let a = c .before .before .args in
     let none : c .before .loop .s ≡ 0 = omega arith in
     sym (c .before .loop .inv .1 ∙ ap (λ (s : ℕ). fewKeysBelow s (take (a .n) (a .changes))) none)
 
 pub keys-ok-spec : {M : Type 1} → statement M
 keys-ok-spec =
     tie.close
-    (tie.spec Inv-loop μ-loop (λ c κs. search needs) (λ c. (omega arith, refl)) (λ c. search needs)
-    (λ c. search needs) (λ c. search needs) (λ c. search needs) (λ c κs. search needs) returns (λ c. search needs)
-    loop-again (λ c. search needs) loop-again-2 returns-2)
+    (tie.spec Inv-loop μ-loop (λ c. (omega arith, refl)) (λ c. search needs) (λ c. search needs) (λ c. search needs)
+    (λ c. search needs) (λ c κs. c .before .before .before .pre .0) returns (λ c. search needs) loop-again
+    (λ c. search needs) loop-again-2 returns-2)
