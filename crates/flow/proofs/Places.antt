@@ -1,28 +1,32 @@
--- The place of a key decides what setting or removing its entry does. With it the turns of the loops that look for a
--- place, for an entry and for the longest entry that covers an address. Assumes nothing.
+-- The place of a key decides what setting or removing its entry does. With it the turns of the loops that test a
+-- table's entries, and that look for a place, for an entry and for the longest entry that covers an address.
+-- Assumes nothing.
 use mathlib.Core.Path.{_≡_, refl, sym, ap, _∙_}
 use mathlib.Core.List.{List, [], _∷_}
-use mathlib.Core.Bool.{true, false, _||_}
+use mathlib.Core.Bool.{true, false, _&&_, _||_, and-true}
 use Prim.Native.Nat.{ℕ, zero, suc, _+_, _-_, _≤_, _<_, zero-le, suc-le-suc}
 use native.Mathlib.Nat.{zero-lt-suc}
 use native.Mathlib.Numerals.{add-one}
 use native.Mathlib.Omega.{arith}
-use lib.ListN.{length, take, drop, getD, set}
+use lib.Dec.{ltb, leb}
+use lib.ListN.{length, take, drop, getD, set, length-take}
+use borrow.Author.Tests.{lt-ltb, le-ltb}
 use Rattle.answer.specs.Ask.{pick}
 use Rattle.answer.proofs.Bools.{by-bool, tf, pick-ap}
 use Rattle.lists.specs.Kinds.{among}
 use Rattle.lists.proofs.Stores.{front, back}
+use Rattle.lists.proofs.Tails.{tail-step}
 use Rattle.flow.specs.Rules.{Key, keyOf, ruleKey, before, sameKey}
-use Rattle.flow.specs.Tables.{emptyEntry}
+use Rattle.flow.specs.Tables.{emptyEntry, entryOk, headOk}
 use Rattle.flow.specs.Changes.{setEntry, dropEntry, act, applyRule, hasEntry}
 use Rattle.flow.specs.Changes.{placeOf, heads, presentAt}
-use Rattle.lists.specs.Arrays.{put, del}
-use Rattle.flow.specs.Lookups.{covers, better, bestOf}
+use Rattle.lists.specs.Arrays.{put, del, everyTail}
+use Rattle.flow.specs.Lookups.{Best, covers, better, bestOf}
 use Rattle.flow.specs.declared.Action.{Action}
 use Rattle.flow.specs.declared.Action.the-variants.{Remove, Set}
 use Rattle.flow.specs.declared.Rule.{Rule}
 use Rattle.flow.specs.declared.Entry.{Entry}
-use Rattle.flow.specs.declared.Found.the-variants.{Nothing}
+use Rattle.flow.specs.declared.Found.the-variants.{Port, Nothing}
 
 pub place-le : (k : Key) (es : List Entry) → placeOf k es ≤ length es
 unfolding placeOf
@@ -69,8 +73,38 @@ pub apply-set : (r : Rule) (port : ℕ) (es : List Entry) → r .action ≡ Set 
     → applyRule r es ≡ setEntry (record { prefix = r .prefix; length = r .length; port = port }) es
 apply-set r port es h = ap (λ (a : Action). act a (ruleKey r) es) h
 
+-- what was found, by its place; 64 is the place of none
+unfoldable pub bestAt : List Entry → ℕ → Best
+bestAt es at = pick (ltb at 64) (Port (getD es at emptyEntry .port), getD es at emptyEntry .length) (Nothing, 0)
+
+module _ (es : List Entry) (at : ℕ) where
+  pub best-in : at < 64 → bestAt es at ≡ (Port (getD es at emptyEntry .port), getD es at emptyEntry .length)
+  unfolding bestAt
+  best-in h = rw (lt-ltb at 64 h)
+
+  pub best-none : 64 ≤ at → bestAt es at ≡ (Nothing, 0)
+  unfolding bestAt
+  best-none h = rw (le-ltb at 64 h)
+
 -- The loops are at the i-th of the first n entries of an array.
 module _ (n i : ℕ) (es : List Entry) where
+  -- an entry is tested with the next one, and the last alone
+  pub pair-step : i + 1 < n → n ≤ length es
+      → let e = getD es i emptyEntry in
+      everyTail headOk (drop i (take n es))
+      ≡ ((entryOk e && before (keyOf e) (keyOf (getD es (i + 1) emptyEntry)))
+      && everyTail headOk (drop (i + 1) (take n es)))
+  pair-step h f =
+      let next = front es n (i + 1) emptyEntry h f in
+      tail-step headOk (take n es) i (simp length-take (omega arith))
+      ∙ rw (front es n i emptyEntry (omega arith) f, ← add-one i, next)
+
+  pub last-step : i + 1 ≡ n → n ≤ length es → everyTail headOk (drop i (take n es)) ≡ entryOk (getD es i emptyEntry)
+  unfolding everyTail
+  last-step h f =
+      ap (everyTail headOk) (front es n i emptyEntry (omega arith) f)
+      ∙ rw (back es n (suc i) (omega arith), and-true (entryOk (getD es i emptyEntry) && true), and-true)
+
   -- what stands at a place
   pub present-here : (k : Key) → i < n → n ≤ length es
       → presentAt i k (take n es) ≡ sameKey (keyOf (getD es i emptyEntry)) k
@@ -132,3 +166,24 @@ module _ (n i : ℕ) (es : List Entry) where
       let next : suc (i - 1) ≡ i = omega arith in
       ap (bestOf address) (front es n (i - 1) emptyEntry (omega arith) f)
       ∙ ap (λ (j : ℕ). better (covers (keyOf e) address) e (bestOf address (drop j (take n es)))) next
+
+  module _ (address at : ℕ) (first : 0 < i) (within : i ≤ n) (full : n ≤ length es)
+      (held : bestAt es at ≡ bestOf address (drop i (take n es))) where
+    best-turn : let e = getD es (i - 1) emptyEntry in
+        bestOf address (drop (i - 1) (take n es)) ≡ better (covers (keyOf e) address) e (bestAt es at)
+    best-turn = rw held (best-step address first within full)
+
+    -- an entry that covers the address takes the place of a shorter one or an equal one, or of none
+    pub best-longer : let e = getD es (i - 1) emptyEntry in
+        n ≤ 64 → covers (keyOf e) address ≡ true → leb (bestAt es at .1) (e .length) ≡ true
+        → bestAt es (i - 1) ≡ bestOf address (drop (i - 1) (take n es))
+    best-longer few c l = best-in es (i - 1) (omega arith) ∙ sym (best-turn ∙ rw (c, l))
+
+    pub best-shorter : let e = getD es (i - 1) emptyEntry in
+        covers (keyOf e) address ≡ true → leb (bestAt es at .1) (e .length) ≡ false
+        → bestAt es at ≡ bestOf address (drop (i - 1) (take n es))
+    best-shorter c l = sym (best-turn ∙ rw (c, l))
+
+    pub best-apart : covers (keyOf (getD es (i - 1) emptyEntry)) address ≡ false
+        → bestAt es at ≡ bestOf address (drop (i - 1) (take n es))
+    best-apart c = sym (best-turn ∙ rw c)

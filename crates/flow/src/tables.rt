@@ -1,10 +1,12 @@
 // The empty flow table, the entries in use, and the limits.
 ghost use mathlib.Core.Path.{_≡_};
-ghost use Prim.Native.Nat.{_≤_, _<_};
+ghost use Prim.Native.Nat.{_≤_};
 ghost use lib.ListN.{take, drop};
+ghost use mathlib.Core.Bool.{_&&_};
 ghost use mathlib.Core.List.{[]};
 ghost use Rattle.lists.specs.Arrays.{everyTail, every};
-ghost use Rattle.flow.specs.Tables.{meaning, tableOf, headOk, isEmpty, tableOk};
+ghost use Rattle.flow.specs.Rules.{keyOf, before};
+ghost use Rattle.flow.specs.Tables.{meaning, tableOf, entryOk, headOk, isEmpty, tableOk};
 use crate::Entry;
 use crate::Table;
 use crate::rules::is_before;
@@ -31,42 +33,49 @@ pub(crate) fn used(t: Table) -> usize
     if t.count <= 64 { t.count } else { 64 }
 }
 
-// Whether the entry at i may stand in a table and comes before the next one.
-fn head_ok(es: [Entry; 64], count: usize, i: usize) -> bool
-    requires { ⌜ (i < count) × (count ≤ 64) ⌝ }
-    ensures { λ r. ⌜ r ≡ headOk (drop i (take count es)) ⌝ }
+// Whether an entry may stand in a table.
+fn entry_ok(e: Entry) -> bool
+    ensures { λ r. ⌜ r ≡ entryOk e ⌝ }
 {
-    let e = es[i];
     if prefix_ok(e.prefix, e.length) {
-        if 0 < e.port {
-            let j = i + 1;
-            if j < count {
-                let f = es[j];
-                is_before(e.prefix, e.length, f.prefix, f.length)
-            } else {
-                true
-            }
-        } else {
-            false
-        }
+        0 < e.port
     } else {
         false
     }
 }
 
+// Whether an entry may stand in a table, and comes before the next one.
+fn pair_ok(e: Entry, next: Entry) -> bool
+    ensures { λ r. ⌜ r ≡ (entryOk e && before (keyOf e) (keyOf next)) ⌝ }
+{
+    if entry_ok(e) {
+        is_before(e.prefix, e.length, next.prefix, next.length)
+    } else {
+        false
+    }
+}
+
+// Whether the first count entries may stand in a table and rise: each is tested with the next one, the last alone.
 fn ordered(es: [Entry; 64], count: usize) -> bool
     requires { ⌜ count ≤ 64 ⌝ }
     ensures { λ r. ⌜ r ≡ everyTail headOk (take count es) ⌝ }
 {
+    if count == 0 {
+        return true;
+    }
+    let last = count - 1;
     let mut i: usize = 0;
-    while i < count {
-        if head_ok(es, count, i) {
+    while i < last {
+        let e = es[i];
+        let next = es[i + 1];
+        if pair_ok(e, next) {
             i += 1;
         } else {
             return false;
         }
     }
-    true
+    let e = es[last];
+    entry_ok(e)
 }
 
 fn is_empty(e: Entry) -> bool
