@@ -20,25 +20,34 @@ fn does_cover(e: Entry, address: u32) -> bool
     a / size == p / size
 }
 
-// The longest of the first count entries that cover an address, the earlier of equals: from the last to the first.
+// The longest of the first count entries that cover an address, the earlier of equals: from the last to the first, where
+// 64 is the place of none.
 fn longest(es: [Entry; 64], count: usize, address: u32) -> Found
     requires { ⌜ count ≤ 64 ⌝ }
     ensures { λ r. ⌜ r ≡ lookupOf address (take count es) ⌝ }
 {
-    let mut best = Found::Nothing;
-    let mut length: u8 = 0;
+    let mut at: usize = 64;
     let mut i = count;
     while 0 < i {
         i -= 1;
         let e = es[i];
         if does_cover(e, address) {
-            if length <= e.length {
-                best = Found::Port(e.port);
-                length = e.length;
+            if at < 64 {
+                let best = es[at];
+                if best.length <= e.length {
+                    at = i;
+                }
+            } else {
+                at = i;
             }
         }
     }
-    best
+    if at < 64 {
+        let best = es[at];
+        Found::Port(best.port)
+    } else {
+        Found::Nothing
+    }
 }
 
 // The lookup that forwarding uses: of a table's entries in use, whether or not it obeys its limits.
