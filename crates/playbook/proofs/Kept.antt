@@ -148,7 +148,7 @@ plan-triggers : (b : Book) (t : Trigger)
     ≡ (different sameTrigger (map triggerOf (b .plans)) && not (hasTrigger t (b .plans)))
 plan-triggers b t = rw map-append (different-snoc sameTrigger trigger-mine trigger-sound (map triggerOf (b .plans)) t)
 
-count-triggers : (qs : List Plan) → map triggerOf (countLast qs) ≡ map triggerOf qs
+pub count-triggers : (qs : List Plan) → map triggerOf (countLast qs) ≡ map triggerOf qs
 unfolding countLast
 count-triggers [] = refl
 count-triggers (q ∷ []) = refl

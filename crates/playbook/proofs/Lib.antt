@@ -1,4 +1,4 @@
--- Laws of playbooks. Marked, Walked, Gathered, Steps and Past are for this crate alone.
+-- Laws of playbooks. Marked, Walked, Gathered, Collected, Steps, Past and Arms are for this crate alone.
 pub mod Sound
 pub mod Questions
 pub mod Spans
@@ -12,5 +12,7 @@ pub mod Ranges
 mod Marked
 mod Walked
 mod Gathered
+mod Collected
 mod Steps
 mod Past
+mod Arms

@@ -77,6 +77,14 @@ module _ {used : List ℕ} {qs : List Plan} (m : Marked used qs) (q : Plan) (pla
     each = λ u s c. flag u s c ∙ ap not (sym (trigger-snoc qs q u));
   }
 
+-- plans with the same triggers
+pub marked-same : {used : List ℕ} {qs rs : List Plan} → Marked used qs → map triggerOf qs ≡ map triggerOf rs
+    → Marked used rs
+marked-same m e = record {
+  full = m .full;
+  each = λ t s c. m .each t s c ∙ ap (λ (ts : List Trigger). not (among sameTrigger t ts)) e;
+}
+
 -- two that are the same in a beginning are the same in the whole
 different-front : {A : Type 0} (eq : A → A → Bool) (l m : List A) → different eq l ≡ false
     → different eq (l ++ m) ≡ false

@@ -13,8 +13,8 @@ use Rattle.lists.specs.Bytes.{byteAt}
 use Rattle.answer.specs.Ask.{Question, reply, firstNo, pick}
 use Rattle.answer.proofs.Asked.{none-asked, asked, From, all-yes, stopped, answered, reply-keeps}
 use Rattle.playbook.specs.Limits.{planKind, changeKind, planSize, changeSize, endSize}
-use Rattle.playbook.specs.Books.{Book, meaning, Trigger, withPlan, withChange}
-use Rattle.playbook.specs.Books.{planQuestions, changeQuestions, taken, openPlan, listChange}
+use Rattle.playbook.specs.Books.{Book, meaning, storeOf, Trigger, withPlan, withChange}
+use Rattle.playbook.specs.Books.{planQuestions, changeQuestions}
 use Rattle.playbook.specs.Records.{changeOf, isKind, sizeOf, recordOf, recordAt}
 use Rattle.playbook.specs.Reading.{refusal, finished, follow, readFrom, readFirst}
 use Rattle.playbook.specs.declared.Change.{Change}
@@ -22,9 +22,8 @@ use Rattle.playbook.specs.declared.Outcome.{Outcome}
 use Rattle.playbook.specs.declared.Playbook.{Playbook}
 use Rattle.playbook.specs.declared.Record.{Record}
 use Rattle.playbook.specs.declared.Record.the-variants.{Opens, Lists, Ends, Refused}
-use Rattle.playbook.specs.declared.Taken.{Taken}
 use Rattle.playbook.proofs.Sound.{Fits, Sound, means, is-sound, sound-fits}
-use Rattle.playbook.proofs.Steps.{answer-is, next-stored, plan-passed, change-passed}
+use Rattle.playbook.proofs.Steps.{plan-passed, change-passed}
 
 -- a record whose bytes are there
 pub whole-record : (l : List ℕ) (kind : ℕ) → byteAt l 0 ≡ kind → isKind kind ≡ true → sizeOf kind ≤ length l
@@ -103,40 +102,40 @@ abbrev pub SoFar : List ℕ → Playbook → ℕ → Type 0
 SoFar s p at = (at ≤ length s) × Sound p × (readFirst s ≡ readOn s at (meaning p))
 
 -- where a record that asks questions leads: where one is answered no, the playbook is refused; else it is read on
-pub record Turn (s : List ℕ) (r : Taken) (to : ℕ) : Type 0 where
-  pub stops : (r .answer ≡ 0 → ⊥) → refusal (r .answer) ≡ readFirst s
-  pub goes-on : r .answer ≡ 0 → SoFar s (r .playbook) to
+pub record Turn (s : List ℕ) (k : ℕ) (next : Book) (to : ℕ) : Type 0 where
+  pub stops : (k ≡ 0 → ⊥) → refusal k ≡ readFirst s
+  pub goes-on : k ≡ 0 → (p : Playbook) → p ≡ storeOf next → SoFar s p to × (meaning p ≡ next)
 
 module _ (s : List ℕ) (p : Playbook) (at : ℕ) (so-far : SoFar s p at) (more : at < length s) where
   turn : (qs : List Question) (next : Book) (to : ℕ) → to ≤ length s → From 1 qs ≡ true
       → (firstNo qs ≡ 0 → Fits next) → readOn s at (meaning p) ≡ reply qs refusal (readOn s to next)
-      → (r : Taken) → r ≡ taken qs (meaning p) next → Turn s r to
-  turn qs next to h n fits follows r e =
-      let k = answer-is qs (meaning p) next r e in
-      record {
-        stops = λ some. stopped qs refusal _ k some ∙ sym (so-far .2 ∙ follows);
-        goes-on = λ none.
-            let f = fits (sym k ∙ none) in
-            let stored = next-stored qs (meaning p) next r e n none in (
-              h,
-              is-sound (r .playbook) next stored f,
-              so-far .2 ∙ follows ∙ all-yes qs refusal _ n (sym k ∙ none)
-                  ∙ ap (readOn s to) (sym (means (r .playbook) next stored f)),
-            );
-      }
+      → (k : ℕ) → k ≡ firstNo qs → Turn s k next to
+  turn qs next to h n fits follows k e = record {
+    stops = λ some. stopped qs refusal _ e some ∙ sym (so-far .2 ∙ follows);
+    goes-on = λ none stored is.
+        let f = fits (sym e ∙ none) in
+        let m = means stored next is f in (
+          (
+            h,
+            is-sound stored next is f,
+            so-far .2 ∙ follows ∙ all-yes qs refusal _ n (sym e ∙ none) ∙ ap (readOn s to) (sym m),
+          ),
+          m,
+        );
+  }
 
   -- the record is no longer than what is left
   left : (r : Record) → recordAt (drop at s) ≡ r → bytesIn r ≤ length s - at
   left r e = rw (← length-drop at s, ← e) (record-fits (drop at s))
 
-  pub plan-turn : (t : Trigger) → recordAt (drop at s) ≡ Opens (t .0) (t .1) → (r : Taken) → r ≡ openPlan (meaning p) t
-      → Turn s r (at + planSize)
+  pub plan-turn : (t : Trigger) → recordAt (drop at s) ≡ Opens (t .0) (t .1) → (k : ℕ)
+      → k ≡ firstNo (planQuestions (meaning p) t) → Turn s k (withPlan (meaning p) t) (at + planSize)
   plan-turn t here =
       turn (planQuestions (meaning p) t) (withPlan (meaning p) t) (at + planSize) (omega (arith, left _ here)) refl
       (plan-passed (meaning p) t (sound-fits p (so-far .1))) (record-next s at (meaning p) more _ here)
 
-  pub change-turn : (c : Change) → recordAt (drop at s) ≡ Lists c → (r : Taken) → r ≡ listChange (meaning p) c
-      → Turn s r (at + changeSize)
+  pub change-turn : (c : Change) → recordAt (drop at s) ≡ Lists c → (k : ℕ)
+      → k ≡ firstNo (changeQuestions (meaning p) c) → Turn s k (withChange (meaning p) c) (at + changeSize)
   change-turn c here =
       turn (changeQuestions (meaning p) c) (withChange (meaning p) c) (at + changeSize) (omega (arith, left _ here))
       refl (change-passed (meaning p) c (sound-fits p (so-far .1))) (record-next s at (meaning p) more _ here)

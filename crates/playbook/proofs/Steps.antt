@@ -1,26 +1,23 @@
 -- A plan more and a change more: in the store they are what they are in the book, and what passes its questions fits
 -- the store. Assumes nothing.
-use mathlib.Core.Path.{_≡_, sym, ap, _∙_}
-use mathlib.Core.Bool.{true}
-use mathlib.Core.List.{List, [], _∷_, _++_}
-use Prim.Native.Nat.{ℕ, _+_, _-_, _≤_, _<_}
+use mathlib.Core.Path.{_≡_, ap, _∙_}
+use mathlib.Core.List.{List}
+use Prim.Native.Nat.{_+_, _-_, _≤_, _<_}
 use native.Mathlib.Omega.{arith}
 use lib.ListN.{length, set, getD, length-append}
 use lib.Seq.{getD-take}
-use Rattle.answer.specs.Ask.{Question, firstNo}
-use Rattle.answer.proofs.Asked.{reply-ap, From, all-yes}
+use Rattle.answer.specs.Ask.{firstNo}
 use Rattle.lists.specs.Arrays.{pad}
 use Rattle.lists.proofs.Padding.{pad-snoc, pad-get, pad-set}
 use Rattle.playbook.specs.Limits.{maxPlans, maxChanges}
 use Rattle.playbook.specs.Books.{Book, emptyPlan, meaning, storeOf, Trigger, lastCount, counted, countLast}
-use Rattle.playbook.specs.Books.{newPlan, withPlan, withChange, planQuestions, changeQuestions, taken}
+use Rattle.playbook.specs.Books.{newPlan, withPlan, withChange, planQuestions, changeQuestions}
 use Rattle.playbook.specs.declared.Change.{Change}
 use Rattle.playbook.specs.declared.Plan.{Plan}
 use Rattle.playbook.specs.declared.Playbook.{Playbook}
-use Rattle.playbook.specs.declared.Taken.{Taken}
 use Rattle.playbook.proofs.Questions.{plan-passes, change-passes}
-use Rattle.playbook.proofs.Sound.{Fits, Sound, means, sound-fits, sound-planned, sound-listed}
-use Rattle.playbook.proofs.Sound.{count-length, last-at, count-at}
+use Rattle.playbook.proofs.Sound.{Fits, Sound, sound-fits, sound-planned, count-length, last-at}
+use Rattle.playbook.proofs.Sound.{count-at}
 
 -- the store with a plan more, and with a change more, of the last plan
 abbrev pub planStored : Playbook → Trigger → Playbook
@@ -80,32 +77,9 @@ last-count p e h =
 pub few-plans : (p : Playbook) → Sound p → p .planned ≤ maxPlans
 few-plans p e = omega (arith, sound-planned p e, sound-fits p e .plans)
 
--- a refusal leaves the store as it was
-pub kept : (p : Playbook) (k : ℕ) → Sound p
-    → _≡_ {A = Taken} (record { answer = k; playbook = p }) (record { answer = k; playbook = storeOf (meaning p) })
-kept p k e = ap (λ (q : Playbook). record { answer = k; playbook = q }) e
-
 -- a change more fits where there is room
 change-fits : (b : Book) (c : Change) → Fits b → length (b .changes) < maxChanges → Fits (withChange b c)
 change-fits b c f h = record { plans = rw count-length (f .plans); changes = rw length-append (omega arith) }
-
--- the changes of the store with a change more
-pub more-changes : (p next : Playbook) (c : Change) → Sound p → p .listed < maxChanges
-    → next ≡ storeOf (withChange (meaning p) c)
-    → (next .listed ≤ maxChanges) × (meaning next .changes ≡ meaning p .changes ++ c ∷ [])
-more-changes p next c e h n =
-    let fits = change-fits (meaning p) c (sound-fits p e) (omega (arith, sound-listed p e)) in (
-      omega (arith, ap (λ (q : Playbook). q .listed) n, fits .changes),
-      ap (λ (b : Book). b .changes) (means next (withChange (meaning p) c) n fits),
-    )
-
--- the answer is the first question whose answer is no; where there is none, the next book is stored
-module _ (qs : List Question) (b next : Book) (r : Taken) (e : r ≡ taken qs b next) where
-  pub answer-is : r .answer ≡ firstNo qs
-  answer-is = ap (λ (x : Taken). x .answer) e ∙ reply-ap (λ (x : Taken). x .answer) qs _ _
-
-  pub next-stored : From 1 qs ≡ true → r .answer ≡ 0 → r .playbook ≡ storeOf next
-  next-stored n a = ap (λ (x : Taken). x .playbook) (e ∙ all-yes qs _ _ n (sym answer-is ∙ a))
 
 -- what passed its questions fits the store
 pub plan-passed : (b : Book) (t : Trigger) → Fits b → firstNo (planQuestions b t) ≡ 0 → Fits (withPlan b t)

@@ -1,14 +1,14 @@
-// The empty store, and a store with a plan more after its questions.
+// The empty store, and the questions of a plan that ask about the store.
 ghost use mathlib.Core.Path.{_≡_};
-ghost use Prim.Native.Nat.{_<_};
+ghost use mathlib.Core.List.{[], _∷_};
+ghost use lib.Dec.{ltb, eqb};
+ghost use Rattle.answer.specs.Ask.{firstNo};
 ghost use Rattle.playbook.specs.Limits.{maxPlans};
-ghost use Rattle.playbook.specs.Books.{noPlans, meaning, storeOf, withPlan, openPlan};
+ghost use Rattle.playbook.specs.Books.{noPlans, storeOf};
 use crate::Change;
 use crate::Plan;
 use crate::Playbook;
-use crate::Taken;
 use crate::limits;
-use crate::plans::has_trigger;
 use flow::Action;
 use flow::Rule;
 
@@ -37,51 +37,16 @@ pub fn empty() -> Playbook
     }
 }
 
-fn with_plan(p: Playbook, switch: u8, cause: u8) -> Playbook
-    requires { ⌜ (p ≡ storeOf (meaning p)) × (p .planned < maxPlans) ⌝ }
-    ensures { λ r. ⌜ r ≡ storeOf (withPlan (meaning p) (switch, cause)) ⌝ }
+// Questions 35 and 36 of a plan, by the flag of its trigger and how many plans there are: the first that refuses it,
+// or 0.
+pub(crate) fn plan_asked(flag: u8, planned: usize) -> u8
+    ensures { λ r. ⌜ r ≡ firstNo ((35, eqb flag 0) ∷ (36, ltb planned maxPlans) ∷ []) ⌝ }
 {
-    let at = p.planned;
-    let first = p.listed;
-    let mut next = p;
-    next.plans[at] = Plan {
-        switch: switch,
-        cause: cause,
-        first: first,
-        count: 0,
-    };
-    next.planned = at + 1;
-    next
-}
-
-// Questions 12, 35 and 36; then the plan is opened.
-pub(crate) fn open_plan(p: Playbook, switch: u8, cause: u8) -> Taken
-    requires { ⌜ p ≡ storeOf (meaning p) ⌝ }
-    ensures { λ r. ⌜ r ≡ openPlan (meaning p) (switch, cause) ⌝ }
-{
-    if limits::SWITCHES <= switch {
-        return Taken {
-            answer: answer::UNKNOWN_ID,
-            playbook: p,
-        };
+    if flag != 0 {
+        return answer::TRIGGER_USED;
     }
-    let plans = p.plans;
-    let n = p.planned;
-    if has_trigger(plans, n, 0, switch, cause) {
-        return Taken {
-            answer: answer::TRIGGER_USED,
-            playbook: p,
-        };
+    if limits::PLANS <= planned {
+        return answer::OVER_LIMIT;
     }
-    if limits::PLANS <= n {
-        return Taken {
-            answer: answer::OVER_LIMIT,
-            playbook: p,
-        };
-    }
-    let next = with_plan(p, switch, cause);
-    Taken {
-        answer: answer::DONE,
-        playbook: next,
-    }
+    answer::DONE
 }

@@ -1,90 +1,38 @@
-// A store with a change more, after its questions.
+// The questions of a change, but for that of the prefixes.
 ghost use mathlib.Core.Path.{_≡_};
 ghost use mathlib.Core.Bool.{_&&_};
-ghost use Prim.Native.Nat.{_<_};
+ghost use mathlib.Core.List.{[], _∷_};
 ghost use lib.Dec.{ltb};
-ghost use Rattle.playbook.specs.Limits.{maxChanges, maxOfPlan};
-ghost use Rattle.playbook.specs.Books.{meaning, storeOf, lastCount, withChange, listChange};
+ghost use Rattle.answer.specs.Ask.{firstNo};
+ghost use Rattle.flow.specs.Rules.{wellFormed};
+ghost use Rattle.playbook.specs.Limits.{maxChanges, maxOfPlan, switchCount};
 use crate::Change;
-use crate::Plan;
-use crate::Playbook;
-use crate::Taken;
-use crate::keys::keys_fit;
 use crate::limits;
 
-// Question 36 of a change, where there is a plan.
-fn has_room(p: Playbook) -> bool
-    requires { ⌜ (p ≡ storeOf (meaning p)) × (0 < p .planned) ⌝ }
-    ensures { λ r. ⌜ r ≡ (ltb (p .listed) maxChanges && ltb (lastCount (meaning p .plans)) maxOfPlan) ⌝ }
-{
-    if limits::CHANGES <= p.listed {
-        return false;
-    }
-    let last = p.planned - 1;
-    let q = p.plans[last];
-    q.count < limits::CHANGES_OF_PLAN
-}
-
-fn with_change(p: Playbook, c: Change) -> Playbook
-    requires { ⌜ (p ≡ storeOf (meaning p)) × (0 < p .planned)
-        × (p .listed < maxChanges) × (lastCount (meaning p .plans) < maxOfPlan) ⌝ }
-    ensures { λ r. ⌜ r ≡ storeOf (withChange (meaning p) c) ⌝ }
-{
-    let at = p.listed;
-    let last = p.planned - 1;
-    let q = p.plans[last];
-    let mut next = p;
-    next.plans[last] = Plan {
-        switch: q.switch,
-        cause: q.cause,
-        first: q.first,
-        count: q.count + 1,
-    };
-    next.changes[at] = c;
-    next.listed = at + 1;
-    next
-}
-
-// Questions 12, 34, 15, 36 and 37; then the change is the last plan's.
-pub(crate) fn list_change(p: Playbook, c: Change) -> Taken
-    requires { ⌜ p ≡ storeOf (meaning p) ⌝ }
-    ensures { λ r. ⌜ r ≡ listChange (meaning p) c ⌝ }
+// Questions 12, 34 and 15, where there are so many plans: the first that refuses the change, or 0.
+pub(crate) fn change_asked(c: Change, planned: usize) -> u8
+    ensures { λ r. ⌜ r ≡ firstNo ((12, ltb (c .switch) switchCount) ∷ (34, ltb 0 planned)
+        ∷ (15, wellFormed (c .rule)) ∷ []) ⌝ }
 {
     if limits::SWITCHES <= c.switch {
-        return Taken {
-            answer: answer::UNKNOWN_ID,
-            playbook: p,
-        };
+        return answer::UNKNOWN_ID;
     }
-    if p.planned == 0 {
-        return Taken {
-            answer: answer::NO_PLAN,
-            playbook: p,
-        };
+    if planned == 0 {
+        return answer::NO_PLAN;
     }
     let rule = c.rule;
     if !flow::well_formed(rule) {
-        return Taken {
-            answer: answer::MALFORMED_RULE,
-            playbook: p,
-        };
+        return answer::MALFORMED_RULE;
     }
-    if !has_room(p) {
-        return Taken {
-            answer: answer::OVER_LIMIT,
-            playbook: p,
-        };
+    answer::DONE
+}
+
+// Question 36: so many changes are listed, and so many of them are the last plan's.
+pub(crate) fn has_room(listed: usize, count: usize) -> bool
+    ensures { λ r. ⌜ r ≡ (ltb listed maxChanges && ltb count maxOfPlan) ⌝ }
+{
+    if limits::CHANGES <= listed {
+        return false;
     }
-    let next = with_change(p, c);
-    let changes = next.changes;
-    if !keys_fit(changes, next.listed, c.switch) {
-        return Taken {
-            answer: answer::TOO_MANY_PREFIXES,
-            playbook: p,
-        };
-    }
-    Taken {
-        answer: answer::DONE,
-        playbook: next,
-    }
+    count < limits::CHANGES_OF_PLAN
 }

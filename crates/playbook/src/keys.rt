@@ -1,6 +1,6 @@
 // How many different prefixes with lengths a switch has in a playbook (question 37).
 ghost use mathlib.Core.Path.{_≡_};
-ghost use Prim.Native.Nat.{_≤_};
+ghost use Prim.Native.Nat.{_≤_, _<_};
 ghost use lib.Dec.{leb, eqb};
 ghost use lib.ListN.{length, take};
 ghost use Rattle.flow.specs.Rules.{ruleKey};
@@ -14,14 +14,14 @@ use crate::limits;
 use flow::Rule;
 
 // A prefix and its length as one number.
-fn key_number(rule: Rule) -> u64
-    ensures { λ r. ⌜ r ≡ keyNumber (ruleKey rule) ⌝ }
+pub(crate) fn key_number(rule: Rule) -> u64
+    ensures { λ r. ⌜ (r ≡ keyNumber (ruleKey rule)) × (rule .length < 256) ⌝ }
 {
     (rule.prefix as u64) * 256 + (rule.length as u64)
 }
 
 // Whether a key is one of the first n.
-fn holds(keys: &[u64], n: usize, key: u64) -> bool
+pub(crate) fn holds(keys: &[u64], n: usize, key: u64) -> bool
     requires { ⌜ n ≤ length (now keys) ⌝ }
     ensures { λ r. ⌜ r ≡ among eqb key (take n (now (keys .entry))) ⌝ }
 {
@@ -37,7 +37,7 @@ fn holds(keys: &[u64], n: usize, key: u64) -> bool
 
 // Whether the first n changes have not too many different keys on a switch. From the last change to the first, the keys
 // that no later change has are gathered, so a change is compared with at most 64 of them and not with every other.
-pub(crate) fn keys_fit(changes: [Change; limits::CHANGES], n: usize, switch: u8) -> bool
+fn keys_fit(changes: [Change; limits::CHANGES], n: usize, switch: u8) -> bool
     requires { ⌜ n ≤ maxChanges ⌝ }
     ensures { λ r. ⌜ r ≡ leb (kindsOn switch (take n changes)) maxKeys ⌝ }
 {

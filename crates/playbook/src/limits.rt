@@ -8,6 +8,8 @@ pub(crate) const CHANGES: usize = 512;
 pub(crate) const CHANGES_OF_PLAN: usize = 32;
 // Different prefixes with lengths on one switch.
 pub(crate) const KEYS: usize = 64;
+// One place for each of these on each switch.
+pub(crate) const ALL_KEYS: usize = 1024;
 
 pub(crate) const SWITCHES: u8 = 16;
 // One place for each switch.

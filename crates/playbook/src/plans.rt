@@ -1,15 +1,14 @@
 // Triggers, and the plan of a switch and cause.
 ghost use mathlib.Core.Path.{_≡_};
-ghost use Prim.Native.Nat.{_+_, _*_, _≤_, _<_};
-ghost use lib.ListN.{take, drop};
-ghost use Rattle.playbook.specs.Limits.{maxPlans, switchCount};
-ghost use Rattle.playbook.specs.Books.{meaning, triggerOf, sameTrigger, hasTrigger, newPlan};
+ghost use Prim.Native.Nat.{_+_, _*_, _<_};
+ghost use Rattle.playbook.specs.Limits.{switchCount};
+ghost use Rattle.playbook.specs.Books.{meaning, triggerOf, sameTrigger, newPlan};
 ghost use Rattle.playbook.specs.Plans.{planOf};
 use crate::Plan;
 use crate::Playbook;
 use crate::limits;
 
-pub(crate) fn is_trigger(q: Plan, switch: u8, cause: u8) -> bool
+fn is_trigger(q: Plan, switch: u8, cause: u8) -> bool
     ensures { λ r. ⌜ r ≡ sameTrigger (triggerOf q) (switch, cause) ⌝ }
 {
     if q.switch == switch {
@@ -25,28 +24,6 @@ pub(crate) fn trigger_place(switch: u8, cause: u8) -> usize
     ensures { λ r. ⌜ (r ≡ switch * 256 + cause) × (cause < 256) ⌝ }
 {
     (switch as usize) * limits::CAUSES + (cause as usize)
-}
-
-// Whether one of the first n plans, from a place on, has this trigger.
-pub(crate) fn has_trigger(
-    plans: [Plan; limits::PLANS],
-    n: usize,
-    from: usize,
-    switch: u8,
-    cause: u8,
-) -> bool
-    requires { ⌜ (n ≤ maxPlans) × (from ≤ n) ⌝ }
-    ensures { λ r. ⌜ r ≡ hasTrigger (switch, cause) (drop from (take n plans)) ⌝ }
-{
-    let mut i = from;
-    while i < n {
-        let q = plans[i];
-        if is_trigger(q, switch, cause) {
-            return true;
-        }
-        i += 1;
-    }
-    false
 }
 
 fn no_plan(switch: u8, cause: u8) -> Plan

@@ -2,11 +2,16 @@
 ghost use mathlib.Core.Path.{_≡_};
 ghost use Rattle.playbook.specs.Reading.{refusal, readFirst, readWhole};
 use crate::Outcome;
+use crate::Plan;
 use crate::Record;
 use crate::books::empty;
-use crate::books::open_plan;
-use crate::changes::list_change;
+use crate::books::plan_asked;
+use crate::changes::change_asked;
+use crate::changes::has_room;
+use crate::keys::holds;
+use crate::keys::key_number;
 use crate::limits;
+use crate::plans::trigger_place;
 use crate::records::record_at;
 
 fn refused(answer: u8) -> Outcome
@@ -20,11 +25,16 @@ fn refused(answer: u8) -> Outcome
     }
 }
 
-// The playbook at the front of bytes, up to its end record, and how many bytes that takes.
+// The playbook at the front of bytes, up to its end record, and how many bytes that takes. Each record is written into
+// the store where it stands. Beside it a flag for each trigger tells whether a plan has it, and each switch's different
+// keys are gathered, each once, at places of its own.
 pub fn read_first(s: &[u8]) -> Outcome
     ensures { λ r. ⌜ r ≡ readFirst (now (s .entry)) ⌝ }
 {
     let mut p = empty();
+    let mut used = [0u8; limits::TRIGGERS];
+    let mut seen = [0u64; limits::ALL_KEYS];
+    let mut kinds = [0usize; limits::PLACES];
     let mut at: usize = 0;
     while at < s.len() {
         match record_at(s, at) {
@@ -39,20 +49,59 @@ pub fn read_first(s: &[u8]) -> Outcome
                 };
             }
             Record::Opens { switch, cause } => {
-                let r = open_plan(p, switch, cause);
-                if r.answer != answer::DONE {
-                    return refused(r.answer);
+                if limits::SWITCHES <= switch {
+                    return refused(answer::UNKNOWN_ID);
                 }
-                p = r.playbook;
+                let t = trigger_place(switch, cause);
+                let n = p.planned;
+                let k = plan_asked(used[t], n);
+                if k != answer::DONE {
+                    return refused(k);
+                }
+                used[t] = 1;
+                let first = p.listed;
+                p.plans[n] = Plan {
+                    switch: switch,
+                    cause: cause,
+                    first: first,
+                    count: 0,
+                };
+                p.planned = n + 1;
                 at += limits::PLAN_SIZE;
             }
             Record::Lists(c) => {
-                let r = list_change(p, c);
-                if r.answer != answer::DONE {
-                    return refused(r.answer);
+                let n = p.planned;
+                let k = change_asked(c, n);
+                if k != answer::DONE {
+                    return refused(k);
                 }
-                p = r.playbook;
+                let last = n - 1;
+                let q = p.plans[last];
+                let m = p.listed;
+                if !has_room(m, q.count) {
+                    return refused(answer::OVER_LIMIT);
+                }
+                let switch = c.switch as usize;
+                let from = switch * limits::KEYS;
+                let end = from + limits::KEYS;
+                let known = kinds[switch];
+                let key = key_number(c.rule);
+                p.plans[last] = Plan {
+                    switch: q.switch,
+                    cause: q.cause,
+                    first: q.first,
+                    count: q.count + 1,
+                };
+                p.changes[m] = c;
+                p.listed = m + 1;
                 at += limits::CHANGE_SIZE;
+                if !holds(&seen[from..end], known, key) {
+                    if limits::KEYS <= known {
+                        return refused(answer::TOO_MANY_PREFIXES);
+                    }
+                    seen[from + known] = key;
+                    kinds[switch] = known + 1;
+                }
             }
         }
     }

@@ -69,7 +69,7 @@ looked : (c : tie.After-holds Inv-loop μ-loop)
 looked c =
     c .holds .ensures
     ∙ gathered-looked (c .before .before .before .before .before .before .before .loop .inv .2) _ _
-    (c .before .before .key-number .ensures) (byte (c .before .before .before))
+    (c .before .before .key-number .ensures .0) (byte (c .before .before .before))
 
 returns : tie.Need-returns Inv-loop μ-loop
 returns c =
@@ -84,7 +84,7 @@ loop-again : tie.Need-loop-again Inv-loop μ-loop
 loop-again c =
     let on = c .before .before .before .before .before in
     let at = on .before .before .before .before .loop in
-    let number = c .before .before .before .before .key-number .ensures in
+    let number = c .before .before .before .before .key-number .ensures .0 in
     let fresh = sym (looked (c .before .before)) ∙ not-true _ (c .before .if2 .taken) in
     let more = gathered-new (at .inv .2) _ _ number (byte on) fresh (omega arith) (omega arith) in
     (omega arith, search needs, rw (here on) more)
