@@ -88,7 +88,12 @@ module _ (es : List Entry) (at : ℕ) where
 
 -- The loops are at the i-th of the first n entries of an array.
 module _ (n i : ℕ) (es : List Entry) where
-  -- an entry is tested with the next one, and the last alone
+  -- an entry is tested, then with the next one, the last alone
+  pub entry-fails : i < n → n ≤ length es → entryOk (getD es i emptyEntry) ≡ false
+      → everyTail headOk (drop i (take n es)) ≡ false
+  unfolding everyTail
+  entry-fails h f b = ap (everyTail headOk) (front es n i emptyEntry h f) ∙ rw b
+
   pub pair-step : i + 1 < n → n ≤ length es
       → let e = getD es i emptyEntry in
       everyTail headOk (drop i (take n es))

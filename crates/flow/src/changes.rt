@@ -164,12 +164,12 @@ fn has_room(t: Table, rule: Rule) -> bool
     match action {
         Action::Remove => true,
         Action::Set(_) => {
-            let es = t.entries;
             let count = used(t);
-            if has_entry(es, count, rule.prefix, rule.length) {
+            if count < 64 {
                 true
             } else {
-                count < 64
+                let es = t.entries;
+                has_entry(es, count, rule.prefix, rule.length)
             }
         }
     }
