@@ -1,4 +1,4 @@
--- Laws of the controller end. Places, Planned, Scanning, Shares and Steps are for this crate's own functions.
+-- Laws of the controller end. Places, Planned, Scanning, Shares, Steps and Walked are for this crate's own functions.
 pub mod Within
 pub mod Waiting
 pub mod Staying
@@ -14,3 +14,4 @@ mod Planned
 mod Scanning
 mod Shares
 mod Steps
+mod Walked

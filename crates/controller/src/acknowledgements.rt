@@ -9,7 +9,7 @@ use crate::Controller;
 use crate::Held;
 use crate::Offer;
 use crate::Reply;
-use crate::changes::hold;
+use crate::changes::is_undone;
 use crate::changes::none_held;
 use crate::limits;
 use crate::states::replied;
@@ -19,14 +19,16 @@ fn still_undone(h: Held, acknowledged: [u32; limits::PLACES]) -> Held
     requires { ⌜ h .count ≤ 64 ⌝ }
     ensures { λ r. ⌜ r ≡ heldOf (stillUndone acknowledged (meaning h)) ⌝ }
 {
-    let changes = h.changes;
     let n = h.count;
     let mut out = none_held();
     let mut i: usize = 0;
     while i < n {
-        let u = changes[i];
-        let next = hold(out, acknowledged, u);
-        out = next;
+        let u = h.changes[i];
+        if is_undone(&acknowledged, u) {
+            let at = out.count;
+            out.changes[at] = u;
+            out.count = at + 1;
+        }
         i += 1;
     }
     out

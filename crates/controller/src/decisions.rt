@@ -12,7 +12,7 @@ use crate::Controller;
 use crate::Held;
 use crate::Reply;
 use crate::Undone;
-use crate::changes::hold;
+use crate::changes::is_undone;
 use crate::limits;
 use crate::states::controller_ok;
 use crate::states::replied;
@@ -55,8 +55,13 @@ pub(crate) fn with_plan(
         let change = listed[from + i];
         number += 1;
         let u = with_number(last + 1, number, change);
-        let next = hold(out, acknowledged, u);
-        out = next;
+        if is_undone(&acknowledged, u) {
+            let at = out.count;
+            if at < limits::UNDONE {
+                out.changes[at] = u;
+            }
+            out.count = at + 1;
+        }
         i += 1;
     }
     out

@@ -1,20 +1,22 @@
 // The state of a controller: set up, and its limits.
 ghost use mathlib.Core.Path.{_≡_};
+ghost use mathlib.Core.Bool.{_&&_};
 ghost use Prim.Native.Nat.{_≤_};
-ghost use lib.ListN.{take};
+ghost use lib.ListN.{drop};
 ghost use Rattle.answer.specs.Ask.{firstNo};
 ghost use Rattle.lists.specs.Arrays.{every};
 ghost use Rattle.lists.specs.Rising.{risingFrom};
-ghost use Rattle.controller.specs.Changes.{numbersOf};
+ghost use Rattle.controller.specs.Changes.{undoneEmpty, meaning, numbersOf};
 ghost use Rattle.controller.specs.States.{unchanged, inRange, fresh, setupOf};
 ghost use Rattle.controller.specs.States.{undoneOk, controllerOk, stateQuestions};
 use crate::Controller;
+use crate::Held;
 use crate::Offer;
 use crate::Reply;
 use crate::Undone;
-use crate::changes::empty_from;
 use crate::changes::is_undone;
 use crate::changes::none_held;
+use crate::changes::undone_empty;
 use crate::limits;
 use playbook::Playbook;
 
@@ -74,8 +76,8 @@ pub fn setup(id: u8, n: u8, p: Playbook) -> Reply
 }
 
 // The limits of one undone change.
-fn undone_ok(acknowledged: [u32; limits::PLACES], last: u32, u: Undone) -> bool
-    ensures { λ r. ⌜ r ≡ undoneOk acknowledged last u ⌝ }
+fn undone_ok(acknowledged: &[u32], last: u32, u: Undone) -> bool
+    ensures { λ r. ⌜ r ≡ undoneOk (now (acknowledged .entry)) last u ⌝ }
 {
     if limits::SWITCHES <= u.switch {
         return false;
@@ -96,41 +98,33 @@ fn undone_ok(acknowledged: [u32; limits::PLACES], last: u32, u: Undone) -> bool
     flow::well_formed(rule)
 }
 
-// Whether the first n undone changes are each within their limits.
-fn each_ok(
-    changes: [Undone; limits::UNDONE],
-    n: usize,
-    acknowledged: [u32; limits::PLACES],
-    last: u32,
-) -> bool
-    requires { ⌜ n ≤ 64 ⌝ }
-    ensures { λ r. ⌜ r ≡ every (undoneOk acknowledged last) (take n changes) ⌝ }
+// Whether the undone changes are each within their limits and their numbers rise, from 1 on, and the other places are
+// empty.
+fn held_ok(h: Held, acknowledged: [u32; limits::PLACES], last: u32) -> bool
+    requires { ⌜ h .count ≤ 64 ⌝ }
+    ensures { λ r. ⌜ r
+        ≡ (every (undoneOk acknowledged last) (meaning h) && risingFrom 0 (numbersOf (meaning h))
+        && every undoneEmpty (drop (h .count) (h .changes))) ⌝ }
 {
-    let mut i: usize = 0;
-    while i < n {
-        let u = changes[i];
-        if undone_ok(acknowledged, last, u) {
-            i += 1;
-        } else {
-            return false;
-        }
-    }
-    true
-}
-
-// Whether the numbers of the first n undone changes rise, from 1 on.
-fn are_rising(changes: [Undone; limits::UNDONE], n: usize) -> bool
-    requires { ⌜ n ≤ 64 ⌝ }
-    ensures { λ r. ⌜ r ≡ risingFrom 0 (numbersOf (take n changes)) ⌝ }
-{
+    let n = h.count;
     let mut before: u32 = 0;
     let mut i: usize = 0;
     while i < n {
-        let u = changes[i];
+        let u = h.changes[i];
+        if !undone_ok(&acknowledged, last, u) {
+            return false;
+        }
         if u.number <= before {
             return false;
         }
         before = u.number;
+        i += 1;
+    }
+    while i < limits::UNDONE {
+        let u = h.changes[i];
+        if !undone_empty(u) {
+            return false;
+        }
         i += 1;
     }
     true
@@ -144,19 +138,11 @@ pub(crate) fn controller_ok(c: Controller) -> bool
         return false;
     }
     let undone = c.undone;
-    let n = undone.count;
-    if limits::UNDONE < n {
+    if limits::UNDONE < undone.count {
         return false;
     }
-    let changes = undone.changes;
     let acknowledged = c.acknowledged;
-    if !each_ok(changes, n, acknowledged, c.last) {
-        return false;
-    }
-    if !are_rising(changes, n) {
-        return false;
-    }
-    if !empty_from(changes, n) {
+    if !held_ok(undone, acknowledged, c.last) {
         return false;
     }
     let p = c.playbook;

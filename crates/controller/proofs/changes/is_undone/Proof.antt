@@ -9,8 +9,7 @@ use Rattle.controller.proofs.changes.is_undone.Tie as tie
 returns-2 : tie.Need-returns-2
 returns-2 c =
     let a = c .before .before .before .args in
-    let long : length (a .t1) ≡ 16 = search needs in
-    rw (List·getD-eq-default (a .t1) 0 {n = a .u .switch} (omega arith))
+    rw (List·getD-eq-default (a .acknowledged .now) 0 {n = a .u .switch} (c .before .if1 .left))
 
 pub is-undone-spec : {M : Type 1} → statement M
 is-undone-spec =

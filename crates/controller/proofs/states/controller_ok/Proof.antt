@@ -19,7 +19,7 @@ ranged c = sym (c .before .in-range .ensures) ∙ not-false _ (c .if1 .left)
 
 -- what is left to ask where n and the id are in range and there are places for the undone changes
 asked : (c : tie.Else2)
-    → let s = c .before .before .before .before .args .c in
+    → let s = c .before .before .before .before .before .args .c in
     controllerOk s
     ≡ (every (undoneOk (s .acknowledged) (s .last)) (meaning (s .undone))
     && risingFrom 0 (numbersOf (meaning (s .undone)))
@@ -27,8 +27,8 @@ asked : (c : tie.Else2)
     && storedOk (s .playbook))
 unfolding controllerOk
 asked c =
-    let s = c .before .before .before .before .args .c in
-    rw (ranged (c .before .before), le-leb (s .undone .count) 64 (omega arith))
+    let s = c .before .before .before .before .before .args .c in
+    rw (ranged (c .before .before .before), le-leb (s .undone .count) 64 (omega arith))
 
 returns : tie.Need-returns
 unfolding controllerOk
@@ -37,41 +37,22 @@ returns c = rw (sym (c .before .in-range .ensures) ∙ not-true _ (c .if1 .taken
 returns-2 : tie.Need-returns-2
 unfolding controllerOk
 returns-2 c =
-    let s = c .before .before .before .before .args .c in
-    rw (ranged (c .before .before), lt-leb (s .undone .count) 64 (omega arith))
+    let s = c .before .before .before .before .before .args .c in
+    rw (ranged (c .before .before .before), lt-leb (s .undone .count) 64 (omega arith))
 
 returns-3 : tie.Need-returns-3
 returns-3 c =
-    let broken = sym (c .before .each-ok .ensures) ∙ not-true _ (c .if3 .taken) in
-    rw (asked (c .before .before .before .before), broken)
+    let broken = sym (c .before .held-ok .ensures) ∙ not-true _ (c .if3 .taken) in
+    rw (asked (c .before .before .before), broken)
 
 returns-4 : tie.Need-returns-4
 returns-4 c =
     let tested = c .before .before in
-    let each = sym (tested .before .each-ok .ensures) ∙ not-false _ (tested .if3 .left) in
-    let falling = sym (c .before .are-rising .ensures) ∙ not-true _ (c .if4 .taken) in
-    rw (asked (tested .before .before .before .before), each, falling)
-
-returns-5 : tie.Need-returns-5
-returns-5 c =
-    let ordered = c .before .before in
-    let tested = ordered .before .before in
-    let each = sym (tested .before .each-ok .ensures) ∙ not-false _ (tested .if3 .left) in
-    let rising = sym (ordered .before .are-rising .ensures) ∙ not-false _ (ordered .if4 .left) in
-    let used = sym (c .before .empty-from .ensures) ∙ not-true _ (c .if5 .taken) in
-    rw (asked (tested .before .before .before .before), each, rising, used)
-
-returns-6 : tie.Need-returns-6
-returns-6 c =
-    let ordered = c .before .before .before .before in
-    let tested = ordered .before .before in
-    let each = sym (tested .before .each-ok .ensures) ∙ not-false _ (tested .if3 .left) in
-    let rising = sym (ordered .before .are-rising .ensures) ∙ not-false _ (ordered .if4 .left) in
-    let unused = sym (c .before .before .before .empty-from .ensures) ∙ not-false _ (c .before .before .if5 .left) in
-    rw (asked (tested .before .before .before .before), each, rising, unused) (c .stored .ensures)
+    let held = sym (tested .before .held-ok .ensures) ∙ not-false _ (tested .if3 .left) in
+    rw (asked (tested .before .before .before), held) (c .stored .ensures)
 
 pub controller-ok-spec : {M : Type 1} → statement M
 controller-ok-spec =
     tie.close
-    (tie.spec (λ c κs. search needs) returns returns-2 (λ c κs. search needs) returns-3 (λ c κs. search needs) returns-4
-    (λ c κs. search needs) returns-5 (λ c κs. search needs) returns-6)
+    (tie.spec (λ c κs. search needs) returns returns-2 (λ c κs. search needs) returns-3 (λ c κs. search needs)
+    returns-4)

@@ -12,34 +12,34 @@ use Rattle.controller.proofs.states.undone_ok.Tie as tie
 
 -- what is left to ask of a change above the acknowledged number of a known switch
 asked : (c : tie.Else2)
-    → let a = c .before .before .before .before .args in
-    undoneOk (a .acknowledged) (a .last) (a .u)
+    → let a = c .before .before .before .before .before .args in
+    undoneOk (a .acknowledged .now) (a .last) (a .u)
     ≡ (leb (a .u .number) (a .last)
     && leb 1 (a .u .first)
     && leb (a .u .first) (a .u .number)
     && wellFormed (a .u .rule))
 asked c =
-    let u = c .before .before .before .before .args .u in
+    let u = c .before .before .before .before .before .args .u in
     let above = sym (c .before .is-undone .ensures) ∙ not-false _ (c .if2 .left) in
     rw (lt-ltb (u .switch) 16 (omega arith), above)
 
 returns : tie.Need-returns
-returns c = rw (le-ltb (c .before .before .args .u .switch) 16 (omega arith))
+returns c = rw (le-ltb (c .before .before .before .args .u .switch) 16 (omega arith))
 
 returns-2 : tie.Need-returns-2
 returns-2 c =
-    let u = c .before .before .before .before .args .u in
+    let u = c .before .before .before .before .before .args .u in
     let done = sym (c .before .is-undone .ensures) ∙ not-true _ (c .if2 .taken) in
     rw (lt-ltb (u .switch) 16 (omega arith), done)
 
 returns-3 : tie.Need-returns-3
 returns-3 c =
-    let a = c .before .before .before .before .before .before .args in
+    let a = c .before .before .before .before .before .before .before .args in
     rw (asked (c .before .before), lt-leb (a .u .number) (a .last) (omega arith))
 
 returns-4 : tie.Need-returns-4
 returns-4 c =
-    let a = c .before .before .before .before .before .before .before .before .args in
+    let a = c .before .before .before .before .before .before .before .before .before .args in
     rw (
       asked (c .before .before .before .before),
       le-leb (a .u .number) (a .last) (omega arith),
@@ -49,7 +49,7 @@ returns-4 c =
 returns-5 : tie.Need-returns-5
 returns-5 c =
     let tested = c .before .before .before .before .before .before in
-    let a = tested .before .before .before .before .args in
+    let a = tested .before .before .before .before .before .args in
     rw (
       asked tested,
       le-leb (a .u .number) (a .last) (omega arith),
@@ -60,7 +60,7 @@ returns-5 c =
 returns-6 : tie.Need-returns-6
 returns-6 c =
     let tested = c .before .before .before .before .before .before .before .before in
-    let a = tested .before .before .before .before .args in
+    let a = tested .before .before .before .before .before .args in
     rw (
       asked tested,
       le-leb (a .u .number) (a .last) (omega arith),
