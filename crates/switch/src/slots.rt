@@ -1,5 +1,6 @@
 // Slots, the controllers that agree, and the quorum.
 ghost use mathlib.Core.Path.{_≡_};
+ghost use mathlib.Core.Bool.{_&&_};
 ghost use mathlib.Core.List.{map};
 ghost use Prim.Native.Nat.{_≤_};
 ghost use lib.ListN.{take, drop};
@@ -55,36 +56,25 @@ fn slot_ok(slot: Slot, last: u32) -> bool
     }
 }
 
-// Whether the first n slots are empty, or hold numbers above the last applied one.
+// Whether the first n slots are empty, or hold numbers above the last applied one, and the slots from n on are empty.
 pub(crate) fn slots_ok(slots: [Slot; limits::CONTROLLERS], n: usize, last: u32) -> bool
     requires { ⌜ n ≤ 16 ⌝ }
-    ensures { λ r. ⌜ r ≡ every (slotOk last) (take n slots) ⌝ }
+    ensures { λ r. ⌜ r ≡ (every (slotOk last) (take n slots) && every slotEmpty (drop n slots)) ⌝ }
 {
     let mut i: usize = 0;
     while i < n {
         let slot = slots[i];
-        if slot_ok(slot, last) {
-            i += 1;
-        } else {
+        if !slot_ok(slot, last) {
             return false;
         }
+        i += 1;
     }
-    true
-}
-
-// Whether the slots from n on are empty.
-pub(crate) fn empty_from(slots: [Slot; limits::CONTROLLERS], n: usize) -> bool
-    requires { ⌜ n ≤ 16 ⌝ }
-    ensures { λ r. ⌜ r ≡ every slotEmpty (drop n slots) ⌝ }
-{
-    let mut i = n;
     while i < limits::CONTROLLERS {
         let slot = slots[i];
-        if slot_empty(slot) {
-            i += 1;
-        } else {
+        if !slot_empty(slot) {
             return false;
         }
+        i += 1;
     }
     true
 }
@@ -147,7 +137,7 @@ pub(crate) fn emptied_slots(
     let mut out = slots;
     let mut i: usize = 0;
     while i < limits::CONTROLLERS {
-        let slot = slots[i];
+        let slot = out[i];
         let next = emptied_slot(slot, number);
         out[i] = next;
         i += 1;

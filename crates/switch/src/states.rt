@@ -6,7 +6,6 @@ use crate::Raised;
 use crate::Reply;
 use crate::Switch;
 use crate::limits;
-use crate::slots::empty_from;
 use crate::slots::empty_slot;
 use crate::slots::slots_ok;
 
@@ -78,10 +77,7 @@ pub(crate) fn switch_ok(s: Switch) -> bool
     }
     let slots = s.slots;
     let n = s.n as usize;
-    if !slots_ok(slots, n, s.last) {
-        return false;
-    }
-    empty_from(slots, n)
+    slots_ok(slots, n, s.last)
 }
 
 // Questions 20 and 21, of a state and the length of its key store: 0, or the number of the first whose answer is no.

@@ -2,6 +2,7 @@
 ghost use mathlib.Core.Path.{_≡_};
 ghost use mathlib.Core.Bool.{true};
 ghost use Rattle.message.specs.Writing.{isMessage, portSaid};
+ghost use Rattle.switch.specs.States.{unchanged};
 ghost use Rattle.switch.specs.Writing.{written, eventWritten, acknowledgementWritten};
 use crate::Reply;
 use crate::Switch;
@@ -10,6 +11,7 @@ use crate::states::state_question;
 use message::Message;
 
 // Questions 20, 21, 12, 25 and 26, of a message for a controller and whether there is one to send; then it is written.
+// The answer alone: the state stays, and goes into one reply.
 fn write(
     s: Switch,
     keys: &[u8],
@@ -18,27 +20,26 @@ fn write(
     there: bool,
     frame: &mut [u8],
     at: usize,
-) -> Reply
+) -> u8
     requires { ⌜ (isMessage m ≡ true) × (portSaid m ≡ true) ⌝ }
-    ensures { λ r. ⌜ (r, now (frame .exit))
+    ensures { λ r. ⌜ (unchanged s r, now (frame .exit))
         ≡ written s (now (keys .entry)) controller m there (now (frame .entry)) at ⌝ }
 {
     let k = state_question(s, keys.len());
     if k != answer::DONE {
-        return replied(s, k);
+        return k;
     }
     if s.n <= controller {
-        return replied(s, answer::UNKNOWN_ID);
+        return answer::UNKNOWN_ID;
     }
     if !message::fits(frame.len(), at, message::length_of(m)) {
-        return replied(s, answer::DOES_NOT_FIT);
+        return answer::DOES_NOT_FIT;
     }
     if !there {
-        return replied(s, answer::NOTHING_TO_SEND);
+        return answer::NOTHING_TO_SEND;
     }
     let key = message::keys::LENGTH * (controller as usize);
-    let k = message::write(m, &keys[key..key + message::keys::LENGTH], frame, at);
-    replied(s, k)
+    message::write(m, &keys[key..key + message::keys::LENGTH], frame, at)
 }
 
 // The last raised event, for a controller.
@@ -53,7 +54,8 @@ pub fn write_event(s: Switch, keys: &[u8], controller: u8, frame: &mut [u8], at:
         serial: event.serial,
         cause: event.cause,
     };
-    write(s, keys, controller, m, 0 < event.serial, frame, at)
+    let k = write(s, keys, controller, m, 0 < event.serial, frame, at);
+    replied(s, k)
 }
 
 // The last applied number, for a controller.
@@ -72,5 +74,6 @@ pub fn write_acknowledgement(
         controller: controller,
         number: s.last,
     };
-    write(s, keys, controller, m, true, frame, at)
+    let k = write(s, keys, controller, m, true, frame, at);
+    replied(s, k)
 }

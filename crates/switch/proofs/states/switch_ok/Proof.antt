@@ -40,22 +40,11 @@ slots-ok-requires c κs = omega (arith, few (c .before .before .before .before .
 returns-3 : tie.Need-returns-3
 unfolding switchOk
 returns-3 c =
-    let table = c .before .before .before .before in
-    let broken = sym (c .before .slots-ok .ensures) ∙ not-true _ (c .if3 .taken) in
-    rw (ranged (table .before .before .before), tabled table, broken)
-
-empty-from-requires : tie.Need-empty-from-requires
-empty-from-requires c κs = omega (arith, few (c .before .before .before .before .before .before .before))
-
-returns-4 : tie.Need-returns-4
-unfolding switchOk
-returns-4 c =
-    let table = c .before .before .before .before .before in
-    let held = sym (c .before .before .slots-ok .ensures) ∙ not-false _ (c .before .if3 .left) in
-    rw (ranged (table .before .before .before), tabled table, held) (c .empty-from .ensures)
+    let table = c .before .before .before in
+    rw (ranged (table .before .before .before), tabled table) (c .slots-ok .ensures)
 
 pub switch-ok-spec : {M : Type 1} → statement M
 switch-ok-spec =
     tie.close
     (tie.spec (λ c κs. search needs) returns (λ c κs. search needs) returns-2 (λ c. search needs) slots-ok-requires
-    returns-3 empty-from-requires returns-4)
+    returns-3)

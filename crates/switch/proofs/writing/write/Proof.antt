@@ -13,7 +13,7 @@ use Rattle.answer.proofs.Asked.{none-asked, refused, asked, stopped}
 use Rattle.message.specs.Keys.{keyLength, keyAt}
 use Rattle.message.specs.Writing.{encode, lengthOf, roomAt, placed, writeTo}
 use Rattle.message.proofs.Lent.{key-lent}
-use Rattle.message.proofs.Written.{with-frame, all-written}
+use Rattle.message.proofs.Written.{all-written}
 use Rattle.switch.specs.States.{unchanged, switchOk, stateQuestions}
 use Rattle.switch.specs.Writing.{writeQuestions, written}
 use Rattle.switch.proofs.Steps.{state-passed}
@@ -62,42 +62,34 @@ fitting c = known (c .before .before .before) ∙ asked _ _ 25 _ _ (fits c)
 returns : tie.Need-returns
 unfolding written reply
 returns c =
-    let a = c .before .before .before .before .before .args in
-    with-frame (a .frame .now) (c .replied .ensures)
-    ∙ stopped (stateQuestions (a .s) (length (a .keys .now))) (λ k. (unchanged (a .s) k, a .frame .now)) _
-    (c .before .before .state-question .ensures) (λ e. omega arith)
+    let a = c .before .before .before .before .args in
+    stopped (stateQuestions (a .s) (length (a .keys .now))) (λ k. (unchanged (a .s) k, a .frame .now)) _
+    (c .before .state-question .ensures) (λ e. omega arith)
 
 returns-2 : tie.Need-returns-2
 returns-2 c =
-    let a = c .before .before .before .before .before .before .before .args in
-    with-frame (a .frame .now) (c .replied2 .ensures)
-    ∙ sym (within (c .before .before .before) ∙ refused _ _ 12 _ _ (le-ltb (a .controller) (a .s .n) (omega arith)))
+    let a = c .before .before .before .before .before .before .args in
+    sym (within (c .before .before) ∙ refused _ _ 12 _ _ (le-ltb (a .controller) (a .s .n) (omega arith)))
 
 returns-3 : tie.Need-returns-3
 returns-3 c =
-    let then = c .before in
-    with-frame _ (c .replied3 .ensures)
-    ∙ sym (known (then .before .before .before)
-    ∙ refused _ _ 25 _ _ (room (then .before) ∙ not-true _ (then .if3 .taken)))
+    sym (known (c .before .before .before)
+    ∙ refused _ _ 25 _ _ (room (c .before) ∙ not-true _ (c .if3 .taken)))
 
 returns-4 : tie.Need-returns-4
-returns-4 c =
-    let then = c .before in
-    with-frame _ (c .replied4 .ensures)
-    ∙ sym (fitting (then .before) ∙ refused _ _ 26 _ _ (not-true _ (then .if4 .taken)))
+returns-4 c = sym (fitting (c .before) ∙ refused _ _ 26 _ _ (not-true _ (c .if4 .taken)))
 
 part-write-end : tie.Need-part-write-end
 part-write-end c = omega (arith, ready (c .before .before .before .before .before .before) .1)
 
 returns-5 : tie.Need-returns-5
 returns-5 c =
-    let call = c .before .before .before in
+    let call = c .before .before in
     let there = call .before .before .before in
     let s = there .before .before .before .before .before .before .before .before .before .before in
     let a = s .args in
     let fit = leb-true (a .at + lengthOf (a .m)) (length (a .frame .now)) (fits (there .before)) in
-    with-frame _ (c .replied5 .ensures)
-    ∙ ap (λ (x : ℕ × List ℕ). (unchanged (a .s) (x .0), x .1))
+    ap (λ (x : ℕ × List ℕ). (unchanged (a .s) (x .0), x .1))
     (call .write .ensures
     ∙ ap (λ (k : List ℕ). writeTo k (a .m) (a .frame .now) (a .at)) (key-lent (a .keys .now) (a .controller))
     ∙ all-written _ (a .m) (a .frame .now) (a .at) (s .pre .0) (s .pre .1) fit)
@@ -106,7 +98,7 @@ returns-5 c =
 pub write-spec : {M : Type 1} → statement M
 write-spec =
     tie.close
-    (tie.spec (λ c κs. search needs) (λ c κs. search needs) returns (λ c κs. search needs) returns-2
-    (λ c κs. search needs) (λ c κs. search needs) (λ c κs. search needs) returns-3 (λ c κs. search needs) returns-4
+    (tie.spec (λ c κs. search needs) returns returns-2
+    (λ c κs. search needs) (λ c κs. search needs) returns-3 returns-4
     (λ c. search needs) (λ c. search needs) (λ c. search needs) (λ c. search needs) part-write-end
-    (λ c κs. search needs) (λ c κs. search needs) (λ c. search needs) returns-5)
+    (λ c κs. search needs) (λ c. search needs) returns-5)
