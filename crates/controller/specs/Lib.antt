@@ -1,5 +1,5 @@
 -- The controller end: undone changes, states and their limits, acknowledgements and events, what is ready, the calls,
--- decisions, and lists of calls.
+-- decisions, lists of calls, and what a call moves.
 pub mod Changes
 pub mod States
 pub mod Acknowledgements
@@ -8,3 +8,4 @@ pub mod Readiness
 pub mod Writing
 pub mod Decisions
 pub mod Calls
+pub mod Moving

@@ -8,14 +8,17 @@ ghost use Rattle.answer.specs.Ask.{reply};
 ghost use Rattle.controller.specs.Changes.{meaning, heldOf, stillUndone, numbered, numberedFrom};
 ghost use Rattle.controller.specs.States.{unchanged, controllerOk};
 ghost use Rattle.controller.specs.Decisions.{decisionQuestions, decided, decidedBy};
+ghost use Rattle.controller.specs.Moving.{movedBy};
 use crate::Controller;
 use crate::Held;
+use crate::Moved;
+use crate::Offer;
 use crate::Reply;
 use crate::Undone;
 use crate::changes::is_undone;
 use crate::limits;
 use crate::states::controller_ok;
-use crate::states::replied;
+use crate::states::stays;
 use playbook::Change;
 
 // A plan's change with a number, of the decision with a first number.
@@ -68,9 +71,9 @@ pub(crate) fn with_plan(
 }
 
 // Question 23, which counts the whole plan, and 24, which asks the state afterwards; then the decision is taken.
-fn take_decision(c: Controller, switch: u8, serial: u32, cause: u8) -> Reply
+fn take_decision(c: Controller, switch: u8, serial: u32, cause: u8) -> Moved
     requires { ⌜ (controllerOk c ≡ true) × (switch < 16) ⌝ }
-    ensures { λ r. ⌜ r
+    ensures { λ r. ⌜ movedBy c r
         ≡ reply (drop 3 (decisionQuestions c switch serial cause)) (unchanged c)
         (unchanged (decided c switch serial cause) 0) ⌝ }
 {
@@ -78,34 +81,62 @@ fn take_decision(c: Controller, switch: u8, serial: u32, cause: u8) -> Reply
     let plan = playbook::plan_of(p, switch, cause);
     let last = c.last as u64 + plan.count as u64;
     if limits::NUMBERS < last {
-        return replied(c, answer::NUMBERS_EXHAUSTED);
+        return stays(c, answer::NUMBERS_EXHAUSTED);
     }
     let undone = c.undone;
     let acknowledged = c.acknowledged;
     let listed = p.changes;
     let held = with_plan(undone, acknowledged, listed, plan.first, plan.count, c.last);
-    let mut state = c;
-    state.serials[switch as usize] = serial;
-    state.last = last as u32;
-    state.undone = held;
+    let mut serials = c.serials;
+    serials[switch as usize] = serial;
     if limits::UNDONE < held.count {
-        return replied(c, answer::TOO_MANY_UNDONE);
+        return stays(c, answer::TOO_MANY_UNDONE);
     }
-    replied(state, answer::DONE)
+    Moved {
+        answer: answer::DONE,
+        offer: Offer::Nothing,
+        acknowledged: acknowledged,
+        serials: serials,
+        last: last as u32,
+        undone: held,
+    }
 }
 
-// Questions 20, 12 and 22, then those of the plan. The caller brings a decision that 24 refuses again before any other.
-pub fn decide(c: Controller, switch: u8, serial: u32, cause: u8) -> Reply
-    ensures { λ r. ⌜ r ≡ decidedBy c switch serial cause ⌝ }
+// Questions 20, whose answer is given, 12 and 22, then those of the plan.
+fn decision(c: Controller, ok: bool, switch: u8, serial: u32, cause: u8) -> Moved
+    requires { ⌜ ok ≡ controllerOk c ⌝ }
+    ensures { λ r. ⌜ movedBy c r ≡ decidedBy c switch serial cause ⌝ }
 {
-    if !controller_ok(c) {
-        return replied(c, answer::LIMITS_BROKEN);
+    if !ok {
+        return stays(c, answer::LIMITS_BROKEN);
     }
     if limits::SWITCHES <= switch {
-        return replied(c, answer::UNKNOWN_ID);
+        return stays(c, answer::UNKNOWN_ID);
     }
-    if serial <= c.serials[switch as usize] {
-        return replied(c, answer::SERIAL_DECIDED);
+    let serials = c.serials;
+    if serial <= serials[switch as usize] {
+        return stays(c, answer::SERIAL_DECIDED);
     }
     take_decision(c, switch, serial, cause)
+}
+
+// A decision, after its questions. The caller brings one that 24 refuses again before any other.
+pub fn decide(mut c: Controller, switch: u8, serial: u32, cause: u8) -> Reply
+    ensures { λ r. ⌜ r ≡ decidedBy c switch serial cause ⌝ }
+{
+    let ok = controller_ok(c);
+    let m = decision(c, ok, switch, serial, cause);
+    let offer = m.offer;
+    let acknowledged = m.acknowledged;
+    let serials = m.serials;
+    let undone = m.undone;
+    c.acknowledged = acknowledged;
+    c.serials = serials;
+    c.last = m.last;
+    c.undone = undone;
+    Reply {
+        answer: m.answer,
+        offer: offer,
+        state: c,
+    }
 }

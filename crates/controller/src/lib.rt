@@ -59,6 +59,17 @@ pub struct Reply {
     pub state: Controller,
 }
 
+// What a call does: its answer, what it offers, and the parts of the state that calls move, as they are afterwards. The
+// rest of the state, most of it the playbook, stays where it is.
+pub(crate) struct Moved {
+    pub answer: u8,
+    pub offer: Offer,
+    pub acknowledged: [u32; limits::PLACES],
+    pub serials: [u32; limits::PLACES],
+    pub last: u32,
+    pub undone: Held,
+}
+
 // The ready change of a switch, or none.
 pub(crate) enum Ready {
     Nothing,

@@ -9,8 +9,10 @@ ghost use Rattle.lists.specs.Rising.{risingFrom};
 ghost use Rattle.controller.specs.Changes.{undoneEmpty, meaning, numbersOf};
 ghost use Rattle.controller.specs.States.{unchanged, inRange, fresh, setupOf};
 ghost use Rattle.controller.specs.States.{undoneOk, controllerOk, stateQuestions};
+ghost use Rattle.controller.specs.Moving.{movedBy};
 use crate::Controller;
 use crate::Held;
+use crate::Moved;
 use crate::Offer;
 use crate::Reply;
 use crate::Undone;
@@ -28,6 +30,23 @@ pub(crate) fn replied(state: Controller, k: u8) -> Reply
         answer: k,
         offer: Offer::Nothing,
         state: state,
+    }
+}
+
+// An answer, and all parts of a state as they are.
+pub(crate) fn stays(c: Controller, k: u8) -> Moved
+    ensures { λ r. ⌜ movedBy c r ≡ unchanged c k ⌝ }
+{
+    let acknowledged = c.acknowledged;
+    let serials = c.serials;
+    let undone = c.undone;
+    Moved {
+        answer: k,
+        offer: Offer::Nothing,
+        acknowledged: acknowledged,
+        serials: serials,
+        last: c.last,
+        undone: undone,
     }
 }
 

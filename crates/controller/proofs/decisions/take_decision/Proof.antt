@@ -32,7 +32,7 @@ returns : tie.Need-returns
 returns c =
     let plan = c .before .before .before in
     let a = plan .before .before .args in
-    c .replied .ensures ∙ plan-exhausts (a .c) (a .switch) (a .serial) (a .cause) (found plan) (c .before .if1 .taken)
+    c .stays .ensures ∙ plan-exhausts (a .c) (a .switch) (a .serial) (a .cause) (found plan) (c .before .if1 .taken)
 
 with-plan-requires : tie.Need-with-plan-requires
 with-plan-requires c κs =
@@ -42,11 +42,11 @@ with-plan-requires c κs =
 
 returns-2 : tie.Need-returns-2
 returns-2 c =
-    let after = c .before .before .before in
+    let after = c .before .before .before .before in
     let left = after .before .before .before .before in
     let plan = left .before .before in
     let a = plan .before .before .args in
-    c .replied2 .ensures
+    c .stays2 .ensures
     ∙ plan-full (a .c) (a .switch) (a .serial) (a .cause) (found plan) (omega arith) (after .with-plan .ensures)
     (c .before .if2 .taken)
 
@@ -56,13 +56,11 @@ returns-3 c =
     let left = after .before .before .before .before in
     let plan = left .before .before in
     let a = plan .before .before .args in
-    c .replied3 .ensures
-    ∙ plan-taken (a .c) (a .switch) (a .serial) (a .cause) (found plan) (omega arith) (after .with-plan .ensures)
+    plan-taken (a .c) (a .switch) (a .serial) (a .cause) (found plan) (omega arith) (after .with-plan .ensures)
     (omega arith)
 
 pub take-decision-spec : {M : Type 1} → statement M
 take-decision-spec =
     tie.close
     (tie.spec (λ c κs. search needs) (λ c. search needs) add-last (λ c κs. search needs) returns with-plan-requires
-    (λ c. search needs) (λ c. search needs) (λ c. search needs) (λ c κs. search needs) returns-2 (λ c κs. search needs)
-    returns-3)
+    (λ c. search needs) (λ c. search needs) (λ c κs. search needs) returns-2 (λ c. search needs) returns-3)
