@@ -227,7 +227,7 @@ fn grown(size: usize, rounds: Rounds, columns: &[Column]) {
 
 /// Cost as it grows: with the controllers, with a table's entries, with a playbook's changes.
 pub fn growth(rounds: Rounds) {
-    let rounds = Rounds { count: rounds.count / 2 + 1, span: rounds.span / 2.0 };
+    let rounds = Rounds { count: rounds.count / 2 + 1, ..rounds };
     heading("n", &["a share, each change sent by a quorum", "an acknowledgement written"]);
     for n in 1..=16 {
         let switch = inputs::switch(n, 32);
@@ -254,7 +254,7 @@ pub fn growth(rounds: Rounds) {
         grown(entries, rounds, &columns);
     }
     println!();
-    heading("changes", &["read", "a decision", "an acknowledgement received", "a share made"]);
+    heading("changes", &["read", "a decision", "an acknowledgement received", "a share made (at 0: none)"]);
     let done = inputs::all_done();
     let acknowledgements = inputs::acknowledgements(0, 1, MESSAGES as u32);
     for changes in (0..=512).step_by(64) {
