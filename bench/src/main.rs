@@ -21,7 +21,7 @@ const LIBCRYPTO: [&str; 2] = ["libcrypto.so.3", "libcrypto.so"];
 
 fn main() {
     let rounds = match std::env::args().skip(1).collect::<Vec<_>>().as_slice() {
-        [] => Rounds { count: 41, span: 1e7 },
+        [] => Rounds { count: 51, span: 4e6 },
         [only] if only == "--quick" => Rounds { count: 5, span: 5e5 },
         _ => {
             eprintln!("{USAGE}");
@@ -40,8 +40,4 @@ fn main() {
     tables::calls(rounds);
     tables::question(rounds);
     tables::growth(rounds);
-    println!(
-        "In the noisiest row the middle round took {}% more than the least, which is the one shown.",
-        measure::noise()
-    );
 }

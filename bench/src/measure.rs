@@ -1,7 +1,32 @@
-//! Times of repeated calls: rounds in which the sides take turns, and of each side the least time.
+//! Times of repeated calls, in rounds in which the sides take turns. It is the processor's time for this thread, so
+//! that what else runs on the machine is not counted. Where on the stack a state lies makes a difference to copies of
+//! it, up to 40 in a hundred, and a program does not choose it: so each round starts at another place of a page.
 
-use std::sync::atomic::{AtomicU64, Ordering};
-use std::time::Instant;
+use std::ffi::{c_int, c_long};
+use std::hint::black_box;
+
+/// C's `struct timespec`.
+#[repr(C)]
+#[derive(Default)]
+struct Time {
+    seconds: c_long,
+    nanoseconds: c_long,
+}
+
+extern "C" {
+    fn clock_gettime(clock: c_int, time: *mut Time) -> c_int;
+}
+
+/// Linux's CLOCK_THREAD_CPUTIME_ID.
+const THREAD_TIME: c_int = 3;
+
+/// The processor's time for this thread so far, in nanoseconds.
+fn now() -> f64 {
+    let mut time = Time::default();
+    let failed = unsafe { clock_gettime(THREAD_TIME, &mut time) };
+    assert!(failed == 0, "there is no clock for a thread's time");
+    time.seconds as f64 * 1e9 + time.nanoseconds as f64
+}
 
 /// One side of a row: repeats its call so many times and gives the sum of the answers.
 pub type Run<'a> = Box<dyn FnMut(u32) -> u64 + 'a>;
@@ -9,19 +34,36 @@ pub type Run<'a> = Box<dyn FnMut(u32) -> u64 + 'a>;
 /// How the rounds are made.
 #[derive(Clone, Copy)]
 pub struct Rounds {
+    /// Their number: each goes one call deeper, some hundred bytes, and fifty go through a page.
     pub count: usize,
     /// How long the calls of one side go on in a round, in nanoseconds.
     pub span: f64,
 }
 
-/// Nanoseconds and the sum of one run.
-fn timed(run: &mut Run, times: u32) -> (f64, u64) {
-    let start = Instant::now();
-    let sum = run(times);
-    (start.elapsed().as_nanos() as f64, sum)
+/// What one call takes on a side, in nanoseconds: in the middle one of the rounds, and in the shortest.
+#[derive(Clone, Copy)]
+pub struct Taken {
+    pub middle: f64,
+    pub least: f64,
 }
 
-/// The least time of some runs, so that what else the machine does is left out.
+/// Nanoseconds and the sum of one run.
+fn timed(run: &mut Run, times: u32) -> (f64, u64) {
+    let start = now();
+    let sum = run(times);
+    (now() - start, sum)
+}
+
+/// The same, so many calls deeper in the stack.
+#[inline(never)]
+fn timed_at(depth: usize, run: &mut Run, times: u32) -> (f64, u64) {
+    let room = black_box([0u8; 64]);
+    let taken = if depth == 0 { timed(run, times) } else { timed_at(depth - 1, run, times) };
+    black_box(&room);
+    taken
+}
+
+/// The least time of some runs.
 fn least(run: &mut Run, times: u32) -> f64 {
     (0..5).map(|_| timed(run, times).0).fold(f64::INFINITY, f64::min)
 }
@@ -39,44 +81,25 @@ fn times_for(run: &mut Run, span: f64) -> u32 {
     }
 }
 
-/// The most that the middle round of a side took over its least, in percent of that.
-static NOISE: AtomicU64 = AtomicU64::new(0);
-
-/// Runs shorter than this, in nanoseconds, tell nothing of the machine's noise.
-const TOO_SHORT: f64 = 1e5;
-
-/// How far the rounds of the noisiest side of any row lay apart.
-pub fn noise() -> u64 {
-    NOISE.load(Ordering::Relaxed)
-}
-
-/// The least of the rounds of a side.
-fn least_of(mut rounds: Vec<f64>) -> f64 {
-    rounds.sort_by(f64::total_cmp);
-    if rounds[0] > TOO_SHORT {
-        let over = rounds[rounds.len() / 2] / rounds[0] - 1.0;
-        NOISE.fetch_max((over * 100.0).ceil() as u64, Ordering::Relaxed);
-    }
-    rounds[0]
-}
-
-/// The time of one call on each side, in nanoseconds: the least of the rounds, where a run of one time makes `each`
-/// calls. What a side does before its calls is timed by itself and taken off. The sums of all sides are compared in
-/// each round.
-pub fn compare(name: &str, rounds: Rounds, each: usize, sides: &mut [Run]) -> Vec<f64> {
+/// What a call takes on each side, where a run of one time makes `each` calls. What a side does before its calls is timed
+/// by itself and taken off. The sums of all sides are compared in each round.
+pub fn compare(name: &str, rounds: Rounds, each: usize, sides: &mut [Run]) -> Vec<Taken> {
     let times = sides.iter_mut().map(|run| times_for(run, rounds.span)).min().unwrap_or(1);
-    let mut before = vec![f64::INFINITY; sides.len()];
     let mut lasted = vec![Vec::new(); sides.len()];
-    for _ in 0..rounds.count {
+    for depth in 0..rounds.count {
         let mut sums = Vec::new();
-        for ((run, before), lasted) in sides.iter_mut().zip(&mut before).zip(&mut lasted) {
-            *before = before.min(timed(run, 0).0);
-            let (ns, sum) = timed(run, times);
-            lasted.push(ns);
+        for (run, lasted) in sides.iter_mut().zip(&mut lasted) {
+            let before = timed_at(depth, run, 0).0.min(timed_at(depth, run, 0).0);
+            let (ns, sum) = timed_at(depth, run, times);
+            lasted.push((ns - before) / (f64::from(times) * each as f64));
             sums.push(sum);
         }
         assert!(sums.iter().all(|sum| *sum == sums[0]), "{name}: the sides answer differently: {sums:x?}");
     }
-    let calls = f64::from(times) * each as f64;
-    lasted.into_iter().zip(before).map(|(rounds, before)| (least_of(rounds) - before) / calls).collect()
+    lasted.into_iter().map(taken_in).collect()
+}
+
+fn taken_in(mut rounds: Vec<f64>) -> Taken {
+    rounds.sort_by(f64::total_cmp);
+    Taken { middle: rounds[rounds.len() / 2], least: rounds[0] }
 }

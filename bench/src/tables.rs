@@ -1,7 +1,7 @@
 //! The tables, in Markdown.
 
 use crate::inputs;
-use crate::measure::{compare, Rounds, Run};
+use crate::measure::{compare, Rounds, Run, Taken};
 use crate::openssl::Openssl;
 use crate::rattle::Rattle;
 use crate::rust::Rust;
@@ -37,23 +37,28 @@ fn ratio(a: f64, b: f64) -> String {
     format!("{:.2}", a / b)
 }
 
-/// The times of the library and of the Rust code, for a call that makes up `each` of what is counted.
-fn both(name: &str, rounds: Rounds, each: usize, call: &dyn Fn(&dyn Side, u32) -> u64) -> (f64, f64) {
+/// What the library and the Rust code take for a call, where a run of one time makes `each` calls.
+fn both(name: &str, rounds: Rounds, each: usize, call: &dyn Fn(&dyn Side, u32) -> u64) -> [Taken; 2] {
     let mut sides: [Run; 2] = [Box::new(|times| call(&Rattle, times)), Box::new(|times| call(&Rust, times))];
-    let least = compare(name, rounds, each, &mut sides);
-    (least[0], least[1])
+    let taken = compare(name, rounds, each, &mut sides);
+    [taken[0], taken[1]]
+}
+
+/// The cells of both sides: the middle rounds, their ratio, and that of the shortest.
+fn pair([rattle, rust]: [Taken; 2]) -> String {
+    let middle = ratio(rattle.middle, rust.middle);
+    format!(" {} | {} | {middle} | {} |", shown(rattle.middle), shown(rust.middle), ratio(rattle.least, rust.least))
 }
 
 /// A row of both sides.
 fn row(name: &str, rounds: Rounds, each: usize, call: &dyn Fn(&dyn Side, u32) -> u64) {
-    let (rattle, rust) = both(name, rounds, each, call);
-    println!("| {name} | {} | {} | {} |", shown(rattle), shown(rust), ratio(rattle, rust));
+    println!("| {name} |{}", pair(both(name, rounds, each, call)));
 }
 
 /// Two more cells: a library's time, and how the proved one compares.
-fn cells(rattle: f64, other: Option<f64>) -> String {
+fn cells(rattle: Taken, other: Option<Taken>) -> String {
     match other {
-        Some(other) => format!(" {} | {} |", shown(other), ratio(rattle, other)),
+        Some(other) => format!(" {} | {} |", shown(other.middle), ratio(rattle.middle, other.middle)),
         None => " not measured | |".to_string(),
     }
 }
@@ -86,11 +91,11 @@ fn tag_row(
         Box::new(|times| call(&Rust, &mut bytes.to_vec(), times)),
     ];
     sides.extend(libraries.iter().flatten().map(|library| hashing(library, bytes, hash)));
-    let mut least = compare(name, rounds, 1, &mut sides).into_iter();
-    let (rattle, rust) = (least.next().unwrap_or(0.0), least.next().unwrap_or(0.0));
-    print!("| {name} | {} | {} | {} |", shown(rattle), shown(rust), ratio(rattle, rust));
+    let taken = compare(name, rounds, 1, &mut sides);
+    let mut others = taken[2..].iter().copied();
+    print!("| {name} |{}", pair([taken[0], taken[1]]));
     for library in libraries {
-        print!("{}", cells(rattle, library.and_then(|_| least.next())));
+        print!("{}", cells(taken[0], library.and_then(|_| others.next())));
     }
     println!();
 }
@@ -104,8 +109,10 @@ pub fn tags(rounds: Rounds, with: Option<&Openssl>, without: Option<&Openssl>) {
         }
     }
     println!();
-    println!("| Tags | Rattle ns | Rust ns | ratio | OpenSSL ns | ratio | OpenSSL without assembly ns | ratio |");
-    println!("|---|---|---|---|---|---|---|---|");
+    println!(
+        "| Tags | Rattle ns | Rust ns | ratio | least | OpenSSL ns | ratio | OpenSSL without assembly ns | ratio |"
+    );
+    println!("|---|---|---|---|---|---|---|---|---|");
     let libraries = [with, without];
     let large = inputs::noise(7, 1_000_000);
     tag_row("SHA-256 of 1 MB", rounds, libraries, &large, &|s, m, t| s.sha256(m, t), &|l, m| l.sha256(m));
@@ -120,8 +127,8 @@ pub fn tags(rounds: Rounds, with: Option<&Openssl>, without: Option<&Openssl>) {
 
 /// The calls of both ends, the reader and the rehearsal.
 pub fn calls(rounds: Rounds) {
-    println!("| Call | Rattle ns | Rust ns | ratio |");
-    println!("|---|---|---|---|");
+    println!("| Call | Rattle ns | Rust ns | ratio | least |");
+    println!("|---|---|---|---|---|");
     at_a_switch(rounds);
     at_a_controller(rounds);
     let book = inputs::playbook(512, true);
@@ -180,8 +187,8 @@ fn at_a_controller(rounds: Rounds) {
 
 /// Question 20 alone: calls that are refused right after it.
 pub fn question(rounds: Rounds) {
-    println!("| Question 20, and a refusal right after it | Rattle ns | Rust ns | ratio |");
-    println!("|---|---|---|---|");
+    println!("| Question 20, and a refusal right after it | Rattle ns | Rust ns | ratio | least |");
+    println!("|---|---|---|---|---|");
     for entries in [0, 32, 64] {
         let switch = inputs::switch(4, entries);
         let nobody = Place { receiver: 255, at: 0 };
@@ -219,15 +226,16 @@ fn heading(first: &str, names: &[&str]) {
 fn grown(size: usize, rounds: Rounds, columns: &[Column]) {
     print!("| {size} |");
     for (name, each, call) in columns {
-        let (rattle, rust) = both(name, rounds, *each, call);
-        print!(" {} | {} | {} |", shown(rattle), shown(rust), ratio(rattle, rust));
+        let [rattle, rust] = both(name, rounds, *each, call);
+        let middle = ratio(rattle.middle, rust.middle);
+        print!(" {} | {} | {middle} |", shown(rattle.middle), shown(rust.middle));
     }
     println!();
 }
 
 /// Cost as it grows: with the controllers, with a table's entries, with a playbook's changes.
 pub fn growth(rounds: Rounds) {
-    let rounds = Rounds { count: rounds.count / 2 + 1, ..rounds };
+    let rounds = Rounds { span: rounds.span / 2.0, ..rounds };
     heading("n", &["a share, each change sent by a quorum", "an acknowledgement written"]);
     for n in 1..=16 {
         let switch = inputs::switch(n, 32);
