@@ -82,24 +82,26 @@ fn times_for(run: &mut Run, span: f64) -> u32 {
 }
 
 /// What a call takes on each side, where a run of one time makes `each` calls. What a side does before its calls is timed
-/// by itself and taken off. The sums of all sides are compared in each round.
+/// by itself, and the least of that is taken off. The sums of all sides are compared in each round.
 pub fn compare(name: &str, rounds: Rounds, each: usize, sides: &mut [Run]) -> Vec<Taken> {
     let times = sides.iter_mut().map(|run| times_for(run, rounds.span)).min().unwrap_or(1);
+    let mut before = vec![f64::INFINITY; sides.len()];
     let mut lasted = vec![Vec::new(); sides.len()];
     for depth in 0..rounds.count {
         let mut sums = Vec::new();
-        for (run, lasted) in sides.iter_mut().zip(&mut lasted) {
-            let before = timed_at(depth, run, 0).0.min(timed_at(depth, run, 0).0);
+        for ((run, before), lasted) in sides.iter_mut().zip(&mut before).zip(&mut lasted) {
+            *before = before.min(timed_at(depth, run, 0).0);
             let (ns, sum) = timed_at(depth, run, times);
-            lasted.push((ns - before) / (f64::from(times) * each as f64));
+            lasted.push(ns);
             sums.push(sum);
         }
         assert!(sums.iter().all(|sum| *sum == sums[0]), "{name}: the sides answer differently: {sums:x?}");
     }
-    lasted.into_iter().map(taken_in).collect()
+    let calls = f64::from(times) * each as f64;
+    lasted.into_iter().zip(before).map(|(rounds, before)| taken_in(rounds, before, calls)).collect()
 }
 
-fn taken_in(mut rounds: Vec<f64>) -> Taken {
+fn taken_in(mut rounds: Vec<f64>, before: f64, calls: f64) -> Taken {
     rounds.sort_by(f64::total_cmp);
-    Taken { middle: rounds[rounds.len() / 2], least: rounds[0] }
+    Taken { middle: (rounds[rounds.len() / 2] - before) / calls, least: (rounds[0] - before) / calls }
 }

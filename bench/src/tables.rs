@@ -227,13 +227,14 @@ fn grown(size: usize, rounds: Rounds, columns: &[Column]) {
     print!("| {size} |");
     for (name, each, call) in columns {
         let [rattle, rust] = both(name, rounds, *each, call);
-        let middle = ratio(rattle.middle, rust.middle);
-        print!(" {} | {} | {middle} |", shown(rattle.middle), shown(rust.middle));
+        let least = ratio(rattle.least, rust.least);
+        print!(" {} | {} | {least} |", shown(rattle.least), shown(rust.least));
     }
     println!();
 }
 
-/// Cost as it grows: with the controllers, with a table's entries, with a playbook's changes.
+/// Cost as it grows: with the controllers, with a table's entries, with a playbook's changes. The times are those of the
+/// shortest rounds, which show growth best.
 pub fn growth(rounds: Rounds) {
     let rounds = Rounds { span: rounds.span / 2.0, ..rounds };
     heading("n", &["a share, each change sent by a quorum", "an acknowledgement written"]);
