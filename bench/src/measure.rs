@@ -81,8 +81,8 @@ fn times_for(run: &mut Run, span: f64) -> u32 {
     }
 }
 
-/// What a call takes on each side, where a run of one time makes `each` calls. What a side does before its calls is timed
-/// by itself, and the least of that is taken off. The sums of all sides are compared in each round.
+/// What a call takes on each side, where a run of one time makes `each` calls. What a side does before its calls is
+/// timed by itself, and the least of that is taken off. The sums of all sides are compared in each round.
 pub fn compare(name: &str, rounds: Rounds, each: usize, sides: &mut [Run]) -> Vec<Taken> {
     let times = sides.iter_mut().map(|run| times_for(run, rounds.span)).min().unwrap_or(1);
     let mut before = vec![f64::INFINITY; sides.len()];

@@ -233,8 +233,8 @@ fn grown(size: usize, rounds: Rounds, columns: &[Column]) {
     println!();
 }
 
-/// Cost as it grows: with the controllers, with a table's entries, with a playbook's changes. The times are those of the
-/// shortest rounds, which show growth best.
+/// Cost as it grows: with the controllers, with a table's entries, with a playbook's changes. The times are those of
+/// the shortest rounds, which show growth best.
 pub fn growth(rounds: Rounds) {
     let rounds = Rounds { span: rounds.span / 2.0, ..rounds };
     heading("n", &["a share, each change sent by a quorum", "an acknowledgement written"]);

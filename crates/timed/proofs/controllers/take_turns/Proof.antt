@@ -6,10 +6,12 @@ use Rattle.timed.proofs.controllers.take_turns.Statement.{statement}
 use Rattle.timed.proofs.controllers.take_turns.Tie as tie
 
 abbrev Inv-loop : tie.InvT-loop
-Inv-loop keys switch cause acknowledgements before state₀ sum₀ serial₀ at₀ state sum serial at = at ≤ length acknowledgements
+Inv-loop keys switch cause acknowledgements before state₀ sum₀ serial₀ at₀ state sum serial at =
+    at ≤ length acknowledgements
 
 abbrev μ-loop : tie.MeasureT-loop
-μ-loop keys switch cause acknowledgements before state₀ sum₀ serial₀ at₀ state sum serial at = length acknowledgements - at
+μ-loop keys switch cause acknowledgements before state₀ sum₀ serial₀ at₀ state sum serial at =
+    length acknowledgements - at
 
 pub take-turns-spec : {M : Type 1} → statement M
 take-turns-spec =

@@ -7,7 +7,8 @@ use Rattle.timed.proofs.switches.timed_written.Statement.{statement}
 use Rattle.timed.proofs.switches.timed_written.Tie as tie
 
 abbrev Inv-loop : tie.InvT-loop
-Inv-loop id n keys filling event controller frame₀ at times state sum₀ i₀ frame sum i = (i ≤ times) × (length frame ≡ length frame₀)
+Inv-loop id n keys filling event controller frame₀ at times state sum₀ i₀ frame sum i =
+    (i ≤ times) × (length frame ≡ length frame₀)
 
 abbrev μ-loop : tie.MeasureT-loop
 μ-loop id n keys filling event controller frame₀ at times state sum₀ i₀ frame sum i = times - i
