@@ -1,4 +1,4 @@
--- Laws of the switch end. Bits and Steps are for this crate's own functions.
+-- Laws of the switch end. Bits, Emptied and Steps are for this crate's own functions.
 pub mod Within
 pub mod Passing
 pub mod Taken
@@ -10,4 +10,5 @@ pub mod Agreement
 pub mod Once
 pub mod Senders
 mod Bits
+mod Emptied
 mod Steps

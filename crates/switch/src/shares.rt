@@ -1,11 +1,14 @@
 // A share after the questions of its bytes: questions 15 to 19, then a repeat, held, or applied.
 ghost use mathlib.Core.Path.{_≡_};
 ghost use mathlib.Core.Bool.{true};
-ghost use Prim.Native.Nat.{_<_};
+ghost use Prim.Native.Nat.{_<_, _≤_};
+ghost use lib.ListN.{drop};
 ghost use Rattle.answer.specs.Ask.{firstNo};
+ghost use Rattle.lists.specs.Arrays.{every};
 ghost use Rattle.flow.specs.Rules.{wellFormed};
 ghost use Rattle.flow.specs.Tables.{meaning, tableOk};
 ghost use Rattle.flow.specs.Changes.{roomFor};
+ghost use Rattle.switch.specs.Slots.{slotEmpty};
 ghost use Rattle.switch.specs.States.{switchOk};
 ghost use Rattle.switch.specs.Shares.{keepsRule, shareQuestions, stored, applied, counted, takeShare};
 use crate::Reply;
@@ -51,14 +54,16 @@ fn share_question(s: Switch, slot: Slot, number: u32, rule: Rule) -> u8
 
 // The state with a rule applied that its table has room for.
 fn apply(s: Switch, number: u32, rule: Rule) -> Switch
-    requires { ⌜ (tableOk (s .table) ≡ true) × (wellFormed rule ≡ true) × (roomFor rule (meaning (s .table)) ≡ true) ⌝ }
+    requires { ⌜ (tableOk (s .table) ≡ true) × (wellFormed rule ≡ true) × (roomFor rule (meaning (s .table)) ≡ true)
+        × (s .n ≤ 16) × (every slotEmpty (drop (s .n) (s .slots)) ≡ true) ⌝ }
     ensures { λ r. ⌜ r ≡ applied s number rule ⌝ }
 {
     let table = s.table;
     let slots = s.slots;
     let change = flow::apply(table, rule);
     let changed = change.table;
-    let rest = emptied_slots(slots, number);
+    let n = s.n as usize;
+    let rest = emptied_slots(slots, n, number);
     let mut next = s;
     next.last = number;
     next.table = changed;
@@ -68,8 +73,9 @@ fn apply(s: Switch, number: u32, rule: Rule) -> Switch
 
 // A share stored in its sender's slot and counted: applied at the quorum, else held.
 fn store(s: Switch, c: usize, number: u32, rule: Rule) -> Reply
-    requires { ⌜ (c < 16) × (tableOk (s .table) ≡ true)
-        × (wellFormed rule ≡ true) × (roomFor rule (meaning (s .table)) ≡ true) ⌝ }
+    requires { ⌜ (c < s .n) × (tableOk (s .table) ≡ true)
+        × (wellFormed rule ≡ true) × (roomFor rule (meaning (s .table)) ≡ true)
+        × (s .n ≤ 16) × (every slotEmpty (drop (s .n) (s .slots)) ≡ true) ⌝ }
     ensures { λ r. ⌜ r ≡ counted (stored s c number rule) number rule ⌝ }
 {
     let mut next = s;

@@ -1,6 +1,6 @@
 // Slots, the controllers that agree, and the quorum.
 ghost use mathlib.Core.Path.{_≡_};
-ghost use mathlib.Core.Bool.{_&&_};
+ghost use mathlib.Core.Bool.{true, _&&_};
 ghost use mathlib.Core.List.{map};
 ghost use Prim.Native.Nat.{_≤_};
 ghost use lib.ListN.{take, drop};
@@ -117,30 +117,25 @@ pub(crate) fn is_quorum(n: u8, slots: [Slot; limits::CONTROLLERS], number: u32, 
     needed <= u16::count_ones(bits)
 }
 
-fn emptied_slot(slot: Slot, number: u32) -> Slot
-    ensures { λ r. ⌜ r ≡ emptied number slot ⌝ }
-{
-    if slot.number <= number {
-        empty_slot()
-    } else {
-        slot
-    }
-}
-
-// The slots, those with this number or a lower one emptied.
+// The slots, those with this number or a lower one emptied; from n on they are empty already.
 pub(crate) fn emptied_slots(
     slots: [Slot; limits::CONTROLLERS],
+    n: usize,
     number: u32,
 ) -> [Slot; limits::CONTROLLERS]
+    requires { ⌜ (n ≤ 16) × (every slotEmpty (drop n slots) ≡ true) ⌝ }
     ensures { λ r. ⌜ r ≡ map (emptied number) slots ⌝ }
 {
+    let empty = empty_slot();
     let mut out = slots;
     let mut i: usize = 0;
-    while i < limits::CONTROLLERS {
-        let slot = out[i];
-        let next = emptied_slot(slot, number);
-        out[i] = next;
+    while i < n {
+        let at = i;
         i += 1;
+        let slot = out[at];
+        if slot.number <= number {
+            out[at] = empty;
+        }
     }
     out
 }

@@ -35,7 +35,7 @@ returns-2 : tie.Need-returns-2
 returns-2 c =
     let a = c .before .before .before .before .args in
     let found = hasEntry (ruleKey (a .rule)) (meaning (a .t)) in
-    let few = ap (λ (n : ℕ). ltb n 64) (count (c .before)) ∙ lt-ltb _ _ (c .if1 .taken) in
+    let few = ap (λ (n : ℕ). ltb n 64) (count (c .before)) ∙ lt-ltb (c .before .used .result) 64 (omega arith) in
     rw (c .before .before .enum-told2 .given .1) (sym (ap (λ (b : Bool). found || b) few ∙ or-true found))
 
 returns-3 : tie.Need-returns-3
@@ -43,7 +43,7 @@ returns-3 c =
     let used = c .before .before .before in
     let a = used .before .before .before .args in
     let found = hasEntry (ruleKey (a .rule)) (meaning (a .t)) in
-    let full = ap (λ (n : ℕ). ltb n 64) (count used) ∙ le-ltb _ _ (c .before .before .if1 .left) in
+    let full = ap (λ (n : ℕ). ltb n 64) (count used) ∙ le-ltb (used .used .result) 64 (omega arith) in
     rw (used .before .enum-told2 .given .1)
     (c .has-entry .ensures ∙ ap (hasEntry (ruleKey (a .rule))) (used .used .ensures .1)
     ∙ sym (ap (λ (b : Bool). found || b) full ∙ or-false found))

@@ -41,7 +41,7 @@ store-requires c κs =
     let a = s .args in
     let w = within (a .t1) (s .pre .0) in
     let p = passes (a .t1) (slotOf (a .t1) (a .controller)) (a .number) (a .rule) (passed (c .before .before)) in
-    (omega (arith, w .few), w .table, p .formed, p .room)
+    (omega arith, w .table, p .formed, p .room, w .few, w .unused)
 
 returns-3 : tie.Need-returns-3
 returns-3 c =
