@@ -1,18 +1,14 @@
-// An acknowledgement and an event after the questions of their bytes.
+// What an acknowledgement and an event move.
 ghost use mathlib.Core.Path.{_≡_};
-ghost use mathlib.Core.Bool.{true};
 ghost use Prim.Native.Nat.{_≤_, _<_};
+ghost use lib.ListN.{set};
 ghost use Rattle.controller.specs.Changes.{meaning, heldOf, stillUndone};
-ghost use Rattle.controller.specs.States.{controllerOk};
-ghost use Rattle.controller.specs.Acknowledgements.{acknowledge, takeAcknowledgement, takeEvent};
-use crate::Controller;
 use crate::Held;
+use crate::Moved;
 use crate::Offer;
-use crate::Reply;
 use crate::changes::is_undone;
 use crate::changes::none_held;
 use crate::limits;
-use crate::states::replied;
 
 // The undone changes that are not done by these acknowledged numbers, moved together.
 fn still_undone(h: Held, acknowledged: [u32; limits::PLACES]) -> Held
@@ -34,48 +30,54 @@ fn still_undone(h: Held, acknowledged: [u32; limits::PLACES]) -> Held
     out
 }
 
-// The state with a number acknowledged by a switch.
-fn acknowledged_by(c: Controller, s: usize, number: u32) -> Controller
-    requires { ⌜ (s < 16) × (c .undone .count ≤ 64) ⌝ }
-    ensures { λ r. ⌜ r ≡ acknowledge c s number ⌝ }
+// The parts of a state with a number acknowledged by a switch.
+pub(crate) fn acknowledged_by(m: Moved, s: usize, number: u32) -> Moved
+    requires { ⌜ (s < 16) × (m .undone .count ≤ 64) ⌝ }
+    ensures { λ r. ⌜ r
+        ≡ record {
+          answer = m .answer;
+          offer = m .offer;
+          acknowledged = set (m .acknowledged) s number;
+          serials = m .serials;
+          last = m .last;
+          undone = heldOf (stillUndone (set (m .acknowledged) s number) (meaning (m .undone)));
+        } ⌝ }
 {
-    let undone = c.undone;
-    let mut next = c;
-    next.acknowledged[s] = number;
-    let acknowledged = next.acknowledged;
+    let undone = m.undone;
+    let mut acknowledged = m.acknowledged;
+    acknowledged[s] = number;
     let rest = still_undone(undone, acknowledged);
+    let mut next = m;
+    next.acknowledged = acknowledged;
     next.undone = rest;
     next
 }
 
-// An acknowledgement of a known switch, taken by a controller within its limits.
-pub(crate) fn take_acknowledgement(c: Controller, switch: u8, number: u32) -> Reply
-    requires { ⌜ (controllerOk c ≡ true) × (switch < 16) ⌝ }
-    ensures { λ r. ⌜ r ≡ takeAcknowledgement c switch number ⌝ }
+// The parts of a state, with an event offered.
+pub(crate) fn offering(m: Moved, switch: u8, serial: u32, cause: u8) -> Moved
+    ensures { λ r. ⌜ r
+        ≡ record {
+          answer = m .answer;
+          offer = Offer.Event switch serial cause;
+          acknowledged = m .acknowledged;
+          serials = m .serials;
+          last = m .last;
+          undone = m .undone;
+        } ⌝ }
 {
-    let s = switch as usize;
-    if number <= c.acknowledged[s] {
-        return replied(c, answer::REPEAT);
-    }
-    let state = acknowledged_by(c, s, number);
-    replied(state, answer::DONE)
-}
-
-// Question 22; then the event of a known switch is offered.
-pub(crate) fn take_event(c: Controller, switch: u8, serial: u32, cause: u8) -> Reply
-    requires { ⌜ switch < 16 ⌝ }
-    ensures { λ r. ⌜ r ≡ takeEvent c switch serial cause ⌝ }
-{
-    if serial <= c.serials[switch as usize] {
-        return replied(c, answer::SERIAL_DECIDED);
-    }
-    Reply {
-        answer: answer::DONE,
+    let acknowledged = m.acknowledged;
+    let serials = m.serials;
+    let undone = m.undone;
+    Moved {
+        answer: m.answer,
         offer: Offer::Event {
             switch: switch,
             serial: serial,
             cause: cause,
         },
-        state: c,
+        acknowledged: acknowledged,
+        serials: serials,
+        last: m.last,
+        undone: undone,
     }
 }

@@ -4,17 +4,21 @@ ghost use mathlib.Core.Bool.{true};
 ghost use Rattle.message.specs.declared.Message.the-variants as kinds;
 ghost use Rattle.controller.specs.States.{controllerOk};
 ghost use Rattle.controller.specs.Receiving.{arrived, receivedBy};
+ghost use Rattle.controller.specs.Moving.{movedBy};
 use crate::Controller;
+use crate::Moved;
 use crate::Reply;
-use crate::acknowledgements::take_acknowledgement;
-use crate::acknowledgements::take_event;
+use crate::acknowledgements::acknowledged_by;
+use crate::acknowledgements::offering;
 use crate::limits;
-use crate::states::replied;
+use crate::states::answering;
+use crate::states::controller_ok;
 use crate::states::state_question;
+use crate::states::stays;
 use message::End;
 use message::Message;
 
-// The fields of an event that was read from the bytes.
+// Questions 12 to 14 and 22, of the fields of an event that was read from the bytes; then it is offered.
 fn receive_event(
     c: Controller,
     keys: &[u8],
@@ -23,18 +27,23 @@ fn receive_event(
     receiver: u8,
     serial: u32,
     cause: u8,
-) -> Reply
-    ensures { λ r. ⌜ r
+) -> Moved
+    ensures { λ r. ⌜ movedBy c r
         ≡ arrived c (now (keys .entry)) (now (bytes .entry)) (kinds.Event switch receiver serial cause) ⌝ }
 {
+    let m = stays(c, answer::DONE);
     let k = message::sender_question(limits::SWITCHES, c.id, keys, bytes, switch, receiver);
     if k != answer::DONE {
-        return replied(c, k);
+        return answering(m, k);
     }
-    take_event(c, switch, serial, cause)
+    let serials = m.serials;
+    if serial <= serials[switch as usize] {
+        return answering(m, answer::SERIAL_DECIDED);
+    }
+    offering(m, switch, serial, cause)
 }
 
-// The fields of an acknowledgement that was read from the bytes.
+// Questions 12 to 14, of the fields of an acknowledgement that was read from the bytes; then it is taken, or a repeat.
 fn receive_acknowledgement(
     c: Controller,
     keys: &[u8],
@@ -42,25 +51,32 @@ fn receive_acknowledgement(
     switch: u8,
     receiver: u8,
     number: u32,
-) -> Reply
+) -> Moved
     requires { ⌜ controllerOk c ≡ true ⌝ }
-    ensures { λ r. ⌜ r
+    ensures { λ r. ⌜ movedBy c r
         ≡ arrived c (now (keys .entry)) (now (bytes .entry)) (kinds.Acknowledgement switch receiver number) ⌝ }
 {
+    let m = stays(c, answer::DONE);
     let k = message::sender_question(limits::SWITCHES, c.id, keys, bytes, switch, receiver);
     if k != answer::DONE {
-        return replied(c, k);
+        return answering(m, k);
     }
-    take_acknowledgement(c, switch, number)
+    let s = switch as usize;
+    let acknowledged = m.acknowledged;
+    if number <= acknowledged[s] {
+        return answering(m, answer::REPEAT);
+    }
+    acknowledged_by(m, s, number)
 }
 
-// Questions 20, 21, 10 to 14 and, of an event, 22; then the event is offered, or the acknowledgement taken or a repeat.
-pub fn receive(c: Controller, keys: &[u8], bytes: &[u8]) -> Reply
-    ensures { λ r. ⌜ r ≡ receivedBy c (now (keys .entry)) (now (bytes .entry)) ⌝ }
+// Questions 20, whose answer is given, 21, 10 and 11, then those of what was read.
+fn receipt(c: Controller, ok: bool, keys: &[u8], bytes: &[u8]) -> Moved
+    requires { ⌜ ok ≡ controllerOk c ⌝ }
+    ensures { λ r. ⌜ movedBy c r ≡ receivedBy c (now (keys .entry)) (now (bytes .entry)) ⌝ }
 {
-    let k = state_question(c, keys.len());
+    let k = state_question(ok, keys.len());
     if k != answer::DONE {
-        return replied(c, k);
+        return stays(c, k);
     }
     match message::read(End::Controller, bytes) {
         Message::Event {
@@ -74,12 +90,33 @@ pub fn receive(c: Controller, keys: &[u8], bytes: &[u8]) -> Reply
             controller,
             number,
         } => receive_acknowledgement(c, keys, bytes, switch, controller, number),
-        Message::Refused(k) => replied(c, k),
+        Message::Refused(k) => stays(c, k),
         Message::Share {
             controller: _,
             switch: _,
             number: _,
             rule: _,
-        } => replied(c, answer::WRONG_KIND),
+        } => stays(c, answer::WRONG_KIND),
+    }
+}
+
+// Bytes received, after their questions: an event is offered, an acknowledgement is taken or a repeat.
+pub fn receive(mut c: Controller, keys: &[u8], bytes: &[u8]) -> Reply
+    ensures { λ r. ⌜ r ≡ receivedBy c (now (keys .entry)) (now (bytes .entry)) ⌝ }
+{
+    let ok = controller_ok(c);
+    let m = receipt(c, ok, keys, bytes);
+    let offer = m.offer;
+    let acknowledged = m.acknowledged;
+    let serials = m.serials;
+    let undone = m.undone;
+    c.acknowledged = acknowledged;
+    c.serials = serials;
+    c.last = m.last;
+    c.undone = undone;
+    Reply {
+        answer: m.answer,
+        offer: offer,
+        state: c,
     }
 }

@@ -1,14 +1,17 @@
 // The state of a controller: set up, and its limits.
 ghost use mathlib.Core.Path.{_≡_};
 ghost use mathlib.Core.Bool.{_&&_};
-ghost use Prim.Native.Nat.{_≤_};
+ghost use mathlib.Core.List.{[], _∷_};
+ghost use Prim.Native.Nat.{_*_, _≤_};
+ghost use lib.Dec.{eqb};
 ghost use lib.ListN.{drop};
 ghost use Rattle.answer.specs.Ask.{firstNo};
 ghost use Rattle.lists.specs.Arrays.{every};
 ghost use Rattle.lists.specs.Rising.{risingFrom};
+ghost use Rattle.message.specs.Keys.{keyLength};
 ghost use Rattle.controller.specs.Changes.{undoneEmpty, meaning, numbersOf};
 ghost use Rattle.controller.specs.States.{unchanged, inRange, fresh, setupOf};
-ghost use Rattle.controller.specs.States.{undoneOk, controllerOk, stateQuestions};
+ghost use Rattle.controller.specs.States.{undoneOk, controllerOk};
 ghost use Rattle.controller.specs.Moving.{movedBy};
 use crate::Controller;
 use crate::Held;
@@ -48,6 +51,30 @@ pub(crate) fn stays(c: Controller, k: u8) -> Moved
         last: c.last,
         undone: undone,
     }
+}
+
+// The same parts, with another answer.
+pub(crate) fn answering(m: Moved, k: u8) -> Moved
+    ensures { λ r. ⌜ r
+        ≡ record {
+          answer = k;
+          offer = m .offer;
+          acknowledged = m .acknowledged;
+          serials = m .serials;
+          last = m .last;
+          undone = m .undone;
+        } ⌝ }
+{
+    let mut next = m;
+    next.answer = k;
+    next
+}
+
+// That nothing is offered.
+pub(crate) fn no_offer() -> Offer
+    ensures { λ r. ⌜ r ≡ Offer.Nothing ⌝ }
+{
+    Offer::Nothing
 }
 
 // Whether a controller can have this id, and a domain so many controllers.
@@ -168,11 +195,12 @@ pub(crate) fn controller_ok(c: Controller) -> bool
     playbook::stored(p)
 }
 
-// Questions 20 and 21, of a state and the length of its key store: 0, or the number of the first whose answer is no.
-pub(crate) fn state_question(c: Controller, stored: usize) -> u8
-    ensures { λ r. ⌜ r ≡ firstNo (stateQuestions c stored) ⌝ }
+// Questions 20, whose answer is given, and 21, of the length of a key store: 0, or the number of the first whose answer
+// is no.
+pub(crate) fn state_question(ok: bool, stored: usize) -> u8
+    ensures { λ r. ⌜ r ≡ firstNo ((20, ok) ∷ (21, eqb stored (keyLength * 16)) ∷ []) ⌝ }
 {
-    if !controller_ok(c) {
+    if !ok {
         return answer::LIMITS_BROKEN;
     }
     if stored != message::keys::LENGTH * limits::PLACES {

@@ -1,14 +1,15 @@
 // The share of a switch's ready change, written at an offset of an outgoing frame.
 ghost use mathlib.Core.Path.{_≡_};
 ghost use mathlib.Core.Bool.{true};
-ghost use Rattle.controller.specs.States.{controllerOk};
+ghost use Rattle.controller.specs.States.{unchanged, controllerOk};
 ghost use Rattle.controller.specs.Writing.{shareFor, shareWritten};
 use crate::Controller;
 use crate::Ready;
 use crate::Reply;
 use crate::limits;
 use crate::readiness::ready_in;
-use crate::states::replied;
+use crate::states::controller_ok;
+use crate::states::no_offer;
 use crate::states::state_question;
 use message::Message;
 
@@ -33,24 +34,39 @@ fn current_share(c: Controller, switch: u8) -> Message
     }
 }
 
-// Questions 20, 21, 12, 25 and 26; then the current share for a switch is written. The state stays: a change is done
-// only when its switch acknowledges it.
+// Questions 20, whose answer is given, 21, 12, 25 and 26; then the current share for a switch is written.
+fn share_answer(c: Controller, ok: bool, keys: &[u8], switch: u8, frame: &mut [u8], at: usize) -> u8
+    requires { ⌜ ok ≡ controllerOk c ⌝ }
+    ensures { λ r. ⌜ (unchanged c r, now (frame .exit))
+        ≡ shareWritten c (now (keys .entry)) switch (now (frame .entry)) at ⌝ }
+{
+    let k = state_question(ok, keys.len());
+    if k != answer::DONE {
+        return k;
+    }
+    if limits::SWITCHES <= switch {
+        return answer::UNKNOWN_ID;
+    }
+    if !message::fits(frame.len(), at, message::layout::SHARE_LENGTH) {
+        return answer::DOES_NOT_FIT;
+    }
+    let m = current_share(c, switch);
+    let key = message::keys::LENGTH * (switch as usize);
+    message::write(m, &keys[key..key + message::keys::LENGTH], frame, at)
+}
+
+// The current share for a switch, written after its questions. The state stays: a change is done only when its switch
+// acknowledges it.
 pub fn write_share(c: Controller, keys: &[u8], switch: u8, frame: &mut [u8], at: usize) -> Reply
     ensures { λ r. ⌜ (r, now (frame .exit))
         ≡ shareWritten c (now (keys .entry)) switch (now (frame .entry)) at ⌝ }
 {
-    let k = state_question(c, keys.len());
-    if k != answer::DONE {
-        return replied(c, k);
+    let ok = controller_ok(c);
+    let k = share_answer(c, ok, keys, switch, frame, at);
+    let offer = no_offer();
+    Reply {
+        answer: k,
+        offer: offer,
+        state: c,
     }
-    if limits::SWITCHES <= switch {
-        return replied(c, answer::UNKNOWN_ID);
-    }
-    if !message::fits(frame.len(), at, message::layout::SHARE_LENGTH) {
-        return replied(c, answer::DOES_NOT_FIT);
-    }
-    let m = current_share(c, switch);
-    let key = message::keys::LENGTH * (switch as usize);
-    let k = message::write(m, &keys[key..key + message::keys::LENGTH], frame, at);
-    replied(c, k)
 }

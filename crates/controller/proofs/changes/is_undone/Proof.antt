@@ -1,8 +1,6 @@
 -- `is_undone` meets its contract: past the last place a read gives 0. Assumes nothing.
-use mathlib.Core.Path.{_≡_}
-use native.Mathlib.Omega.{arith}
 use borrow.Author.Needs.{needs}
-use lib.ListN.{length, List·getD-eq-default}
+use lib.ListN.{List·getD-eq-default}
 use Rattle.controller.proofs.changes.is_undone.Statement.{statement}
 use Rattle.controller.proofs.changes.is_undone.Tie as tie
 

@@ -1,4 +1,4 @@
--- `receive` meets its contract: the branch answers questions 20 and 21, and the arms are what the bytes were read as.
+-- `receipt` meets its contract: the branch answers questions 20 and 21, and the arms are what the bytes were read as.
 -- Assumes nothing.
 use mathlib.Core.Path.{_≡_, refl, sym, ap, _∙_}
 use native.Mathlib.Omega.{arith}
@@ -10,19 +10,27 @@ use Rattle.message.specs.declared.Message.{Message}
 use Rattle.controller.specs.States.{stateQuestions}
 use Rattle.controller.specs.Receiving.{arrived, receivedBy}
 use Rattle.controller.specs.declared.Reply.{Reply}
-use Rattle.controller.proofs.Steps.{state-passed}
-use Rattle.controller.proofs.receiving.receive.Statement.{statement}
-use Rattle.controller.proofs.receiving.receive.Tie as tie
+use Rattle.controller.proofs.Steps.{state-asked, state-passed}
+use Rattle.controller.proofs.receiving.receipt.Statement.{statement}
+use Rattle.controller.proofs.receiving.receipt.Tie as tie
+
+-- the answer to questions 20 and 21
+answer : (c : tie.After-state-question)
+    → let a = c .before .before .before .args in
+    c .state-question .result ≡ firstNo (stateQuestions (a .c) (length (a .keys .now)))
+answer c =
+    let s = c .before .before .before in
+    state-asked (s .args .c) (length (s .args .keys .now)) (s .pre) (c .state-question .ensures)
 
 returns : tie.Need-returns
 unfolding receivedBy
-returns c = c .replied .ensures ∙ stopped _ _ _ (c .before .before .state-question .ensures) (λ e. omega arith)
+returns c = c .stays .ensures ∙ stopped _ _ _ (answer (c .before .before)) (λ e. omega arith)
 
 -- questions 20 and 21 answered yes
 ready : (c : tie.Else1)
     → let a = c .before .before .before .before .args in
     firstNo (stateQuestions (a .c) (length (a .keys .now))) ≡ 0
-ready c = sym (c .before .state-question .ensures) ∙ omega arith
+ready c = sym (answer (c .before)) ∙ omega arith
 
 -- what a message does that arrives
 abbrev arrives : tie.Start → Message → Reply
@@ -57,15 +65,15 @@ returns-3 c =
 returns-4 : tie.Need-returns-4
 returns-4 c =
     let arm = c .before .before in
-    c .replied2 .ensures ∙ read-as (arm .before .before) (arm .k .given .1)
+    c .stays2 .ensures ∙ read-as (arm .before .before) (arm .k .given .1)
 
 returns-5 : tie.Need-returns-5
 returns-5 c =
     let arm = c .before in
-    c .replied3 .ensures ∙ read-as (arm .before .before) (arm .enum-told .given .1)
+    c .stays3 .ensures ∙ read-as (arm .before .before) (arm .enum-told .given .1)
 
-pub receive-spec : {M : Type 1} → statement M
-receive-spec =
+pub receipt-spec : {M : Type 1} → statement M
+receipt-spec =
     tie.close
     (tie.spec (λ c κs. search needs) (λ c κs. search needs) returns (λ c κs. search needs) (λ c. search needs)
     (λ c κs. search needs) (λ c. search needs) receive-acknowledgement-requires (λ c. search needs)
