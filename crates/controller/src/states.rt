@@ -26,7 +26,7 @@ use crate::limits;
 use playbook::Playbook;
 
 // An answer with a state, and nothing offered.
-pub(crate) fn replied(state: Controller, k: u8) -> Reply
+fn replied(state: Controller, k: u8) -> Reply
     ensures { λ r. ⌜ r ≡ unchanged state k ⌝ }
 {
     Reply {
