@@ -28,13 +28,15 @@ use Rattle.playbook.proofs.Sound.{sound-planned, sound-listed}
 use Rattle.playbook.proofs.Steps.{planStored, changeStored, plan-more, change-more, last-count}
 use Rattle.playbook.proofs.Marked.{placeOf, Marked, marked-same, marked-more}
 use Rattle.playbook.proofs.Collected.{Collected, part, held-fits, held-more, full-over, new-fits, new-more}
+use Rattle.playbook.proofs.Hinted.{Hinted, hintOf, hint-more}
 use Rattle.playbook.proofs.Past.{SoFar, Turn, plan-turn, change-turn}
 
 -- the bytes up to a place are read: the store, the flags of the triggers and the keys hold what they say
-pub record Reads (s : List ℕ) (p : Playbook) (used seen counts : List ℕ) (at : ℕ) : Type 0 where
+pub record Reads (s : List ℕ) (p : Playbook) (used seen counts hints : List ℕ) (at : ℕ) : Type 0 where
   pub so-far : SoFar s p at
   pub marked : Marked used (meaning p .plans)
   pub collected : Collected seen counts (meaning p .changes)
+  pub hinted : Hinted hints seen counts
 
 -- questions before others: the first that is answered no, and none
 first-no : (qs rs : List Question) → (firstNo qs ≡ 0 → ⊥) → firstNo (qs ++ rs) ≡ firstNo qs
@@ -49,8 +51,8 @@ first-yes [] rs f n = refl
 first-yes ((k, true) ∷ qs) rs f n = first-yes qs rs (and-parts (leb 1 k) _ f .1) n
 first-yes ((k, false) ∷ qs) rs f n = absurd (omega (arith, leb-true 1 k (and-parts (leb 1 k) _ f .0)))
 
-module _ {s : List ℕ} {p : Playbook} {used seen counts : List ℕ} {at : ℕ} (r : Reads s p used seen counts at)
-    (more : at < length s) where
+module _ {s : List ℕ} {p : Playbook} {used seen counts hints : List ℕ} {at : ℕ}
+    (r : Reads s p used seen counts hints at) (more : at < length s) where
   -- a plan's record
   module _ (t : Trigger) (here : recordAt (drop at s) ≡ Opens (t .0) (t .1)) where
     arrives : (k : ℕ) → k ≡ firstNo (planQuestions (meaning p) t) → Turn s k (withPlan (meaning p) t) (at + planSize)
@@ -77,7 +79,7 @@ module _ {s : List ℕ} {p : Playbook} {used seen counts : List ℕ} {at : ℕ} 
         pub plan-room : p .planned < maxPlans
         plan-room = ltb-true _ _ (answered _ refl (sym first ∙ none) 36)
 
-        pub plan-goes-on : Reads s (planStored p t) (set used place 1) seen counts (at + planSize)
+        pub plan-goes-on : Reads s (planStored p t) (set used place 1) seen counts hints (at + planSize)
         plan-goes-on =
             let on = arrives k asked-all .goes-on none (planStored p t) (plan-more p t (r .so-far .1)) in
             let marked = marked-more (r .marked) (newPlan t (length (meaning p .changes))) place is known byte in
@@ -85,6 +87,7 @@ module _ {s : List ℕ} {p : Playbook} {used seen counts : List ℕ} {at : ℕ} 
               so-far = on .0;
               marked = subst⁻¹ (λ (b : Book). Marked (set used place 1) (b .plans)) (on .1) marked;
               collected = subst⁻¹ (λ (b : Book). Collected seen counts (b .changes)) (on .1) (r .collected);
+              hinted = r .hinted;
             }
 
   -- a change's record
@@ -97,7 +100,8 @@ module _ {s : List ℕ} {p : Playbook} {used seen counts : List ℕ} {at : ℕ} 
 
     -- the questions in two parts
     abbrev early : List Question
-    early = (12, ltb (c .switch) switchCount) ∷ (34, ltb 0 (length (meaning p .plans))) ∷ (15, wellFormed (c .rule)) ∷ []
+    early =
+        (12, ltb (c .switch) switchCount) ∷ (34, ltb 0 (length (meaning p .plans))) ∷ (15, wellFormed (c .rule)) ∷ []
 
     abbrev late : List Question
     late = drop 3 (changeQuestions (meaning p) c)
@@ -148,10 +152,10 @@ module _ {s : List ℕ} {p : Playbook} {used seen counts : List ℕ} {at : ℕ} 
             ≡ firstNo ((37, leb (kindsOn (c .switch) (meaning p .changes ++ c ∷ [])) maxKeys) ∷ [])
         passes-36 = passes ∙ asked _ _ 36 _ _ (free-book ∙ room)
 
-        change-on : leb (kindsOn (c .switch) (meaning p .changes ++ c ∷ [])) maxKeys ≡ true → (seen′ counts′ : List ℕ)
-            → Collected seen′ counts′ (meaning p .changes ++ c ∷ [])
-            → Reads s (changeStored p c) used seen′ counts′ (at + changeSize)
-        change-on fits seen′ counts′ g =
+        change-on : leb (kindsOn (c .switch) (meaning p .changes ++ c ∷ [])) maxKeys ≡ true
+            → (seen′ counts′ hints′ : List ℕ) → Collected seen′ counts′ (meaning p .changes ++ c ∷ [])
+            → Hinted hints′ seen′ counts′ → Reads s (changeStored p c) used seen′ counts′ hints′ (at + changeSize)
+        change-on fits seen′ counts′ hints′ g h =
             let on = comes 0 (sym (passes-36 ∙ asked _ _ 37 _ _ fits ∙ none-asked _ _)) .goes-on refl (changeStored p c)
             (change-more p c (r .so-far .1) change-some) in
             record {
@@ -159,25 +163,30 @@ module _ {s : List ℕ} {p : Playbook} {used seen counts : List ℕ} {at : ℕ} 
               marked = subst⁻¹ (λ (b : Book). Marked used (b .plans)) (on .1)
                   (marked-same (r .marked) (sym (count-triggers (meaning p .plans))));
               collected = subst⁻¹ (λ (b : Book). Collected seen′ counts′ (b .changes)) (on .1) g;
+              hinted = h;
             }
 
         module _ (key : ℕ) (number : key ≡ keyNumber (ruleKey (c .rule))) (byte : c .rule .length < 256) where
           abbrev held : Bool
           held = among eqb key (take (getD counts (c .switch) 0) (part seen (c .switch)))
 
-          pub change-held : held ≡ true → Reads s (changeStored p c) used seen counts (at + changeSize)
+          pub change-held : held ≡ true → Reads s (changeStored p c) used seen counts hints (at + changeSize)
           change-held e =
-              change-on (held-fits (r .collected) c change-known key number byte e) seen counts
-              (held-more (r .collected) c change-known key number byte e)
+              change-on (held-fits (r .collected) c change-known key number byte e) seen counts hints
+              (held-more (r .collected) c change-known key number byte e) (r .hinted)
 
           pub change-full : held ≡ false → maxKeys ≤ getD counts (c .switch) 0 → refusal 37 ≡ readFirst s
           change-full e h =
               let over = full-over (r .collected) c change-known key number byte e h in
               comes 37 (sym (passes-36 ∙ refused _ _ 37 _ _ over)) .stops (λ z. omega arith)
 
-          pub change-new : held ≡ false → getD counts (c .switch) 0 < maxKeys
+          pub change-new : held ≡ false → getD counts (c .switch) 0 < maxKeys → (place : ℕ)
+              → place ≡ hintOf (c .switch) key
               → Reads s (changeStored p c) used (set seen (c .switch * maxKeys + getD counts (c .switch) 0) key)
-              (set counts (c .switch) (getD counts (c .switch) 0 + 1)) (at + changeSize)
-          change-new e h =
-              change-on (new-fits (r .collected) c change-known key number byte e h) _ _
-              (new-more (r .collected) c change-known key number byte e h)
+              (set counts (c .switch) (getD counts (c .switch) 0 + 1))
+              (set hints place (getD counts (c .switch) 0 + 1)) (at + changeSize)
+          change-new e h place is =
+              let g = r .collected in
+              change-on (new-fits g c change-known key number byte e h) _ _ _
+              (new-more g c change-known key number byte e h)
+              (hint-more (r .hinted) (c .switch) key place change-known is (g .full) (g .switches) h)

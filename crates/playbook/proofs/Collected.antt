@@ -31,10 +31,10 @@ abbrev pub part : List ℕ → ℕ → List ℕ
 part seen s = take maxKeys (drop (s * maxKeys) seen)
 
 module _ (seen : List ℕ) (s n x : ℕ) (free : n < maxKeys) where
-  part-own : part (set seen (s * maxKeys + n) x) s ≡ set (part seen s) n x
+  pub part-own : part (set seen (s * maxKeys + n) x) s ≡ set (part seen s) n x
   part-own = rw (drop-set-add (s * maxKeys) seen n x, take-set-lt maxKeys (drop (s * maxKeys) seen) n x free)
 
-  part-other : (u : ℕ) → (s ≡ u → ⊥) → part (set seen (s * maxKeys + n) x) u ≡ part seen u
+  pub part-other : (u : ℕ) → (s ≡ u → ⊥) → part (set seen (s * maxKeys + n) x) u ≡ part seen u
   part-other u ne =
       by-le u s
       (λ h. let i = (s - u) * maxKeys + n in

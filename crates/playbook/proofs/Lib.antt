@@ -1,4 +1,4 @@
--- Laws of playbooks. Marked, Walked, Gathered, Collected, Steps, Past and Arms are for this crate alone.
+-- Laws of playbooks. Marked to Arms are for this crate alone.
 pub mod Sound
 pub mod Questions
 pub mod Spans
@@ -13,6 +13,7 @@ mod Marked
 mod Walked
 mod Gathered
 mod Collected
+mod Hinted
 mod Steps
 mod Past
 mod Arms

@@ -1,6 +1,7 @@
 // How many different prefixes with lengths a switch has in a playbook (question 37).
 ghost use mathlib.Core.Path.{_≡_};
-ghost use Prim.Native.Nat.{_≤_, _<_};
+ghost use Prim.Native.Nat.{_%_, _≤_, _<_};
+ghost use mathlib.Core.Bool.{false};
 ghost use lib.Dec.{leb, eqb};
 ghost use lib.ListN.{length, take};
 ghost use Rattle.flow.specs.Rules.{ruleKey};
@@ -21,7 +22,7 @@ pub(crate) fn key_number(rule: Rule) -> u64
 }
 
 // Whether a key is one of the first n.
-pub(crate) fn holds(keys: &[u64], n: usize, key: u64) -> bool
+fn holds(keys: &[u64], n: usize, key: u64) -> bool
     requires { ⌜ n ≤ length (now keys) ⌝ }
     ensures { λ r. ⌜ r ≡ among eqb key (take n (now (keys .entry))) ⌝ }
 {
@@ -33,6 +34,28 @@ pub(crate) fn holds(keys: &[u64], n: usize, key: u64) -> bool
         i += 1;
     }
     false
+}
+
+// A byte by which keys are told apart at first.
+pub(crate) fn mark_of(key: u64) -> u8
+    ensures { λ r. ⌜ r ≡ key % 251 ⌝ }
+{
+    (key % 251) as u8
+}
+
+// Whether a key is one of the first n: the hint is 0 where none of them has its mark, else it is likely the hint-th. Only
+// where it is another they are all compared.
+pub(crate) fn knows(keys: &[u64], n: usize, hint: usize, key: u64) -> bool
+    requires { ⌜ (n ≤ length (now keys)) × (hint ≤ n) × (hint ≡ 0 → among eqb key (take n (now keys)) ≡ false) ⌝ }
+    ensures { λ r. ⌜ r ≡ among eqb key (take n (now (keys .entry))) ⌝ }
+{
+    if hint == 0 {
+        return false;
+    }
+    if keys[hint - 1] == key {
+        return true;
+    }
+    holds(keys, n, key)
 }
 
 // Whether the first n changes have not too many different keys on a switch. From the last change to the first, the keys

@@ -56,7 +56,8 @@ pub(crate) enum Record {
     Refused(u8),
 }
 
-// What a record does to a playbook: 0 and the changed playbook, or a question's number and the playbook as it was.
+// What a record does to a playbook: 0 and the changed playbook, or a question's number and the playbook as it was. Only
+// the definitions name it: the reader writes into the store where it stands.
 pub(crate) struct Taken {
     pub(crate) answer: u8,
     pub(crate) playbook: Playbook,

@@ -14,10 +14,10 @@ pub(crate) const ALL_KEYS: usize = 1024;
 pub(crate) const SWITCHES: u8 = 16;
 // One place for each switch.
 pub(crate) const PLACES: usize = 16;
-// One place for each switch and cause.
-pub(crate) const TRIGGERS: usize = 4096;
+// One place for each switch and byte.
+pub(crate) const PAIRS: usize = 4096;
 
-pub(crate) const CAUSES: usize = 256;
+pub(crate) const BYTES: usize = 256;
 
 // Kinds of records.
 pub(crate) const PLAN: u8 = 0x11;

@@ -18,21 +18,22 @@ fn is_trigger(q: Plan, switch: u8, cause: u8) -> bool
     }
 }
 
-// The place of a trigger among flags for all of them.
-pub(crate) fn trigger_place(switch: u8, cause: u8) -> usize
+// The place of a switch with a cause, or another byte, among places for all of them.
+pub(crate) fn place_of(switch: u8, byte: u8) -> usize
     requires { ⌜ switch < switchCount ⌝ }
-    ensures { λ r. ⌜ (r ≡ switch * 256 + cause) × (cause < 256) ⌝ }
+    ensures { λ r. ⌜ (r ≡ switch * 256 + byte) × (byte < 256) ⌝ }
 {
-    (switch as usize) * limits::CAUSES + (cause as usize)
+    (switch as usize) * limits::BYTES + (byte as usize)
 }
 
-fn no_plan(switch: u8, cause: u8) -> Plan
-    ensures { λ r. ⌜ r ≡ newPlan (switch, cause) 0 ⌝ }
+// A plan with no changes yet.
+pub(crate) fn new_plan(switch: u8, cause: u8, first: usize) -> Plan
+    ensures { λ r. ⌜ r ≡ newPlan (switch, cause) first ⌝ }
 {
     Plan {
         switch: switch,
         cause: cause,
-        first: 0,
+        first: first,
         count: 0,
     }
 }
@@ -46,7 +47,7 @@ pub fn plan_of(p: Playbook, switch: u8, cause: u8) -> Plan
     let mut i: usize = 0;
     while i < n {
         if limits::PLANS <= i {
-            return no_plan(switch, cause);
+            return new_plan(switch, cause, 0);
         }
         let q = plans[i];
         if is_trigger(q, switch, cause) {
@@ -54,5 +55,5 @@ pub fn plan_of(p: Playbook, switch: u8, cause: u8) -> Plan
         }
         i += 1;
     }
-    no_plan(switch, cause)
+    new_plan(switch, cause, 0)
 }

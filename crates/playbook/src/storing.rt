@@ -16,7 +16,7 @@ use crate::Playbook;
 use crate::keys::few_on;
 use crate::keys::keys_ok;
 use crate::limits;
-use crate::plans::trigger_place;
+use crate::plans::place_of;
 
 // Whether a plan is on a known switch, not too long, and has its changes from a place on.
 fn span_ok(q: Plan, start: usize) -> bool
@@ -52,7 +52,7 @@ fn plans_ok(plans: [Plan; limits::PLANS], n: usize, end: usize) -> bool
     ensures { λ r. ⌜ r ≡ (spans 0 end (take n plans) && different sameTrigger (map triggerOf (take n plans))
         && every planEmpty (drop n plans)) ⌝ }
 {
-    let mut used = [0u8; limits::TRIGGERS];
+    let mut used = [0u8; limits::PAIRS];
     let mut start: usize = 0;
     let mut i: usize = 0;
     while i < n {
@@ -60,7 +60,7 @@ fn plans_ok(plans: [Plan; limits::PLANS], n: usize, end: usize) -> bool
         if !span_ok(q, start) {
             return false;
         }
-        let t = trigger_place(q.switch, q.cause);
+        let t = place_of(q.switch, q.cause);
         if used[t] != 0 {
             return false;
         }

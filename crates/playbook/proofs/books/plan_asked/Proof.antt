@@ -9,11 +9,14 @@ returns : tie.Need-returns
 returns c = sym (refused _ _ 35 _ _ (ne-eqb _ _ (c .if1 .taken)))
 
 returns-2 : tie.Need-returns-2
-returns-2 c = sym (asked _ _ 35 _ _ (eq-eqb _ _ (c .before .if1 .left)) ∙ refused _ _ 36 _ _ (le-ltb _ _ (c .if2 .taken)))
+returns-2 c =
+    let new = eq-eqb _ _ (c .before .if1 .left) in
+    sym (asked _ _ 35 _ _ new ∙ refused _ _ 36 _ _ (le-ltb _ _ (c .if2 .taken)))
 
 returns-3 : tie.Need-returns-3
 returns-3 c =
-    sym (asked _ _ 35 _ _ (eq-eqb _ _ (c .before .if1 .left)) ∙ asked _ _ 36 _ _ (lt-ltb _ _ (c .if2 .left)) ∙ none-asked _ _)
+    let new = eq-eqb _ _ (c .before .if1 .left) in
+    sym (asked _ _ 35 _ _ new ∙ asked _ _ 36 _ _ (lt-ltb _ _ (c .if2 .left)) ∙ none-asked _ _)
 
 pub plan-asked-spec : {M : Type 1} → statement M
 plan-asked-spec = tie.close (tie.spec returns returns-2 returns-3)

@@ -53,7 +53,7 @@ none c h =
 returns : tie.Need-returns Inv-loop μ-loop
 returns c =
     let full = long (c .before .before .before .before .before) in
-    c .no-plan .ensures ∙ sym (none (c .before .before .before) (simp length-take (omega arith)))
+    c .new-plan .ensures ∙ sym (none (c .before .before .before) (simp length-take (omega arith)))
 
 returns-2 : tie.Need-returns-2 Inv-loop μ-loop
 returns-2 c = sym (turn (c .before .before .before) ∙ rw (sym (c .before .is-trigger .ensures) ∙ c .if2 .taken))
@@ -63,7 +63,7 @@ loop-again c =
     (omega arith, turn (c .before .before .before) ∙ rw (sym (c .before .is-trigger .ensures) ∙ c .if2 .left))
 
 returns-3 : tie.Need-returns-3 Inv-loop μ-loop
-returns-3 c = c .no-plan2 .ensures ∙ sym (none (c .before .before) (simp length-take (omega arith)))
+returns-3 c = c .new-plan2 .ensures ∙ sym (none (c .before .before) (simp length-take (omega arith)))
 
 pub plan-of-spec : {M : Type 1} → statement M
 plan-of-spec =

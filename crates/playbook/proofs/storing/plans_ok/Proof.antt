@@ -82,19 +82,19 @@ known c =
 
 -- its trigger's flag
 array-read-if2 : tie.Need-array-read-if2 Inv-loop μ-loop Inv-loop2 μ-loop2
-array-read-if2 c = omega (arith, known (c .before), c .trigger-place .ensures)
+array-read-if2 c = omega (arith, known (c .before), c .place-of .ensures)
 
 returns-2 : tie.Need-returns-2 Inv-loop μ-loop Inv-loop2 μ-loop2
 returns-2 c =
     let turn = c .before .before .before .before .before in
-    let place = c .before .trigger-place .ensures in
+    let place = c .before .place-of .ensures in
     let again = walked-used (turn .before .loop .inv) _ (more turn) (found turn) (fits (c .before .before)) _
     (place .0) (place .1)
     (c .if2 .taken) in
     rw (again, and-false)
 
 array-write-used : tie.Need-array-write-used Inv-loop μ-loop Inv-loop2 μ-loop2
-array-write-used c = omega (arith, known (c .before .before), c .before .trigger-place .ensures)
+array-write-used c = omega (arith, known (c .before .before), c .before .place-of .ensures)
 
 add-start : tie.Need-add-start Inv-loop μ-loop Inv-loop2 μ-loop2
 add-start c =
@@ -104,7 +104,7 @@ add-start c =
 loop-again : tie.Need-loop-again Inv-loop μ-loop Inv-loop2 μ-loop2
 loop-again c =
     let turn = c .before .before .before .before .before .before in
-    let place = c .before .before .trigger-place .ensures in
+    let place = c .before .before .place-of .ensures in
     walked-more (turn .before .loop .inv) _ (more turn) (found turn) (fits (c .before .before .before)) _ (place .0)
     (place .1) (c .before .if2 .left)
 
