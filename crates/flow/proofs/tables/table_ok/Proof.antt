@@ -6,11 +6,10 @@ use Prim.Native.Nat.{_+_, _-_, _≤_}
 use native.Mathlib.Omega.{arith}
 use borrow.Author.Needs.{needs}
 use borrow.Author.Tests.{le-leb, lt-leb, not-true, not-false}
-use lib.ListN.{length, take, drop, getD, length-take}
+use lib.ListN.{length, drop, getD, length-take}
 use Rattle.lists.specs.Arrays.{everyTail, every}
 use Rattle.lists.proofs.Stores.{length-mapped}
 use Rattle.lists.proofs.Tails.{tail-end, every-rest, every-end}
-use Rattle.flow.specs.Rules.{keyOf, before}
 use Rattle.flow.specs.Tables.{emptyEntry, meaning, entryOk, headOk, isEmpty, tableOk}
 use Rattle.flow.specs.declared.Table.{Table}
 use Rattle.flow.proofs.Places.{entry-fails, pair-step, last-step}

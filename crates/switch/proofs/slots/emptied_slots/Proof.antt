@@ -1,6 +1,6 @@
 -- `emptied_slots` meets its contract. The loop's invariant: the first i slots are those of the result, and the others
 -- are as they were. Assumes nothing.
-use mathlib.Core.Path.{_≡_, sym, ap, _∙_}
+use mathlib.Core.Path.{_≡_, ap, _∙_}
 use Prim.Native.Nat.{_-_, _≤_}
 use native.Mathlib.Omega.{arith}
 use borrow.Author.Needs.{needs}
