@@ -20,7 +20,7 @@ fn still_undone(h: Held, acknowledged: [u32; limits::PLACES]) -> Held
     let mut i: usize = 0;
     while i < n {
         let u = h.changes[i];
-        if is_undone(&acknowledged, u) {
+        if is_undone(&acknowledged, u.switch, u.number) {
             let at = out.count;
             out.changes[at] = u;
             out.count = at + 1;

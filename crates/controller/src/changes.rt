@@ -1,7 +1,9 @@
 // Undone changes: empty places, and what is done.
 ghost use mathlib.Core.Path.{_≡_};
 ghost use mathlib.Core.List.{[]};
-ghost use Rattle.controller.specs.Changes.{emptyUndone, undoneEmpty, heldOf, isUndone};
+ghost use lib.Dec.{ltb};
+ghost use lib.ListN.{getD};
+ghost use Rattle.controller.specs.Changes.{emptyUndone, undoneEmpty, heldOf};
 use crate::Held;
 use crate::Undone;
 use crate::limits;
@@ -53,14 +55,15 @@ pub(crate) fn undone_empty(u: Undone) -> bool
     flow::rule_empty(rule)
 }
 
-// Whether a change is above the acknowledged number of its switch; an unknown switch has acknowledged nothing.
-pub(crate) fn is_undone(acknowledged: &[u32], u: Undone) -> bool
-    ensures { λ r. ⌜ r ≡ isUndone (now (acknowledged .entry)) u ⌝ }
+// Whether a change with a number is above the acknowledged number of its switch; an unknown switch has acknowledged
+// nothing.
+pub(crate) fn is_undone(acknowledged: &[u32], switch: u8, number: u32) -> bool
+    ensures { λ r. ⌜ r ≡ ltb (getD (now (acknowledged .entry)) switch 0) number ⌝ }
 {
-    let s = u.switch as usize;
+    let s = switch as usize;
     if s < acknowledged.len() {
-        acknowledged[s] < u.number
+        acknowledged[s] < number
     } else {
-        0 < u.number
+        0 < number
     }
 }

@@ -57,8 +57,8 @@ pub(crate) fn with_plan(
     while i < count {
         let change = listed[from + i];
         number += 1;
-        let u = with_number(last + 1, number, change);
-        if is_undone(&acknowledged, u) {
+        if is_undone(&acknowledged, change.switch, number) {
+            let u = with_number(last + 1, number, change);
             let at = out.count;
             if at < limits::UNDONE {
                 out.changes[at] = u;

@@ -128,7 +128,7 @@ fn undone_ok(acknowledged: &[u32], last: u32, u: Undone) -> bool
     if limits::SWITCHES <= u.switch {
         return false;
     }
-    if !is_undone(acknowledged, u) {
+    if !is_undone(acknowledged, u.switch, u.number) {
         return false;
     }
     if last < u.number {

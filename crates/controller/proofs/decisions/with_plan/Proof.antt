@@ -3,16 +3,16 @@
 use mathlib.Core.Logic.{⊎-elim}
 use mathlib.Core.Path.{_≡_, sym, ap, _∙_}
 use mathlib.Core.List.{_++_}
-use Prim.Native.Nat.{_+_, _-_, _≤_}
+use Prim.Native.Nat.{ℕ, _+_, _-_, _≤_}
 use native.Mathlib.Omega.{arith}
 use borrow.Author.Needs.{needs}
-use lib.ListN.{length, take, drop, set, length-take}
+use lib.ListN.{length, take, drop, getD, set, length-take}
 use lib.Seq.{set-out}
 use Rattle.answer.specs.Ask.{pick}
 use Rattle.lists.proofs.Padding.{pad-length}
 use Rattle.playbook.specs.Books.{emptyChange}
 use Rattle.controller.specs.Changes.{emptyUndone, meaning, heldOf, isUndone, stillUndone, numberedFrom}
-use Rattle.controller.specs.Changes.{withChange}
+use Rattle.controller.specs.Changes.{numbered, withChange}
 use Rattle.controller.specs.declared.Held.{Held}
 use Rattle.controller.proofs.Numbering.{given-length}
 use Rattle.controller.proofs.Places.{held-none, held-few, held-turn, numbered-none, numbered-turn}
@@ -53,25 +53,25 @@ few c =
       length-take (a .h .count) (a .h .changes),
     )
 
--- a turn holds its change unless it is done
+-- a turn holds its change with its number unless it is done
 turned : (c : tie.Joined1 Inv-loop μ-loop)
-    → let with = c .before .before .before in
-    let at = with .before .before .before in
-    let u = with .with-number .result in
-    c .if1 .out ≡ pick (isUndone (at .before .args .t2) u) (withChange (at .loop .out) u) (at .loop .out)
+    → let at = c .before .before .before .before .before in
+    let a = at .before .args in
+    let change = getD (a .t3) (a .from + at .loop .i) emptyChange in
+    let u = numbered (a .last + 1) (at .loop .number + 1) change in
+    c .if1 .out ≡ pick (isUndone (a .t2) u) (withChange (at .loop .out) u) (at .loop .out)
 turned c =
-    let with = c .before .before .before in
-    let at = with .before .before .before in
+    let at = c .before .before .before .before .before in
     let h = at .loop .out in
     let long = full at in
     let undone = c .before .is-undone .ensures in
     ⊎-elim
     (λ w.
-    let stored : w .1 .out .changes ≡ set (h .changes) (h .count) (with .with-number .result) =
+    let stored : w .2 .out .changes ≡ set (h .changes) (h .count) (w .1 .result) =
     ⊎-elim (λ v. ap (λ (g : Held). g .changes) (v .1))
     (λ v. ap (λ (g : Held). g .changes) (v .1) ∙ sym (set-out (h .changes) (h .count) _ (omega (arith, v .0 .left))))
-    (w .1 .came) in
-    w .2 ∙ rw (sym undone ∙ w .0 .taken, stored))
+    (w .2 .came) in
+    w .3 ∙ rw (sym undone ∙ w .0 .taken, stored, w .1 .ensures))
     (λ w. w .1 ∙ rw (sym undone ∙ w .0 .left))
     (c .if1 .came)
 
@@ -80,14 +80,13 @@ add-out c = search (needs, few (c .before .before .before .before .before .befor
 
 loop-again : tie.Need-loop-again Inv-loop μ-loop
 loop-again c =
-    let with = c .before .before .before in
-    let at = with .before .before .before in
+    let at = c .before .before .before .before .before in
     let a = at .before .args in
     let long : length (a .t3) ≡ 512 = search needs in
     let next : at .loop .number + 1 ≡ a .last + 1 + at .loop .i = omega arith in
     let more =
     numbered-turn (a .last + 1) (a .last + 1) (a .t3) (a .from) (at .loop .i) emptyChange (omega arith)
-    (rw next at (with .with-number .ensures)) in (
+    (ap (λ (k : ℕ). numbered (a .last + 1) k (getD (a .t3) (a .from + at .loop .i) emptyChange)) next) in (
       omega arith,
       omega arith,
       held-turn (a .t2) (meaning (a .h)) _ (at .loop .inv .2) _ more (turned c),
