@@ -36,6 +36,8 @@ fn main() {
         })
     });
     agreement::check(with.as_ref(), without.as_ref());
+    println!("{} rounds a row, each {} bytes deeper in the stack.", rounds.count, measure::step());
+    println!();
     tables::tags(rounds, with.as_ref(), without.as_ref());
     tables::calls(rounds);
     tables::question(rounds);

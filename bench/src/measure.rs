@@ -34,7 +34,7 @@ pub type Run<'a> = Box<dyn FnMut(u32) -> u64 + 'a>;
 /// How the rounds are made.
 #[derive(Clone, Copy)]
 pub struct Rounds {
-    /// Their number: each goes one call deeper, some hundred bytes, and fifty go through a page.
+    /// Their number: each goes one call deeper. Fifty steps of eighty bytes go through a page and all its alignments.
     pub count: usize,
     /// How long the calls of one side go on in a round, in nanoseconds.
     pub span: f64,
@@ -57,10 +57,19 @@ fn timed(run: &mut Run, times: u32) -> (f64, u64) {
 /// The same, so many calls deeper in the stack.
 #[inline(never)]
 fn timed_at(depth: usize, run: &mut Run, times: u32) -> (f64, u64) {
-    let room = black_box([0u8; 64]);
+    let room = black_box([0u8; 48]);
     let taken = if depth == 0 { timed(run, times) } else { timed_at(depth - 1, run, times) };
     black_box(&room);
     taken
+}
+
+/// By how many bytes a call deeper changes the place of what is timed.
+pub fn step() -> u64 {
+    let mut place: Run = Box::new(|_| {
+        let here = 0u8;
+        black_box(&here) as *const u8 as u64
+    });
+    timed_at(0, &mut place, 0).1 - timed_at(1, &mut place, 0).1
 }
 
 /// The least time of some runs.
