@@ -46,6 +46,6 @@ unfoldable pub numberedFrom : ℕ → ℕ → List Change → List Undone
 numberedFrom first number [] = []
 numberedFrom first number (c ∷ cs) = numbered first number c ∷ numberedFrom first (number + 1) cs
 
--- The rest is what a function below says: the undone changes with one more in the next place, if there is one left.
+-- What the laws of held changes say: the undone changes with one more in the next place, if there is one left.
 abbrev pub withChange : Held → Undone → Held
 withChange h u = record { changes = set (h .changes) (h .count) u; count = h .count + 1 }

@@ -60,7 +60,8 @@ pub struct Reply {
 }
 
 // What a call does: its answer, what it offers, and the parts of the state that calls move, as they are afterwards. The
-// rest of the state, most of it the playbook, stays where it is.
+// rest of the state, most of it the playbook, stays where it is; so each call puts the parts into its own state, since a
+// function that did it for them would copy the whole.
 pub(crate) struct Moved {
     pub answer: u8,
     pub offer: Offer,
