@@ -7,12 +7,14 @@ use lib.Dec.{ltb, leb, eqb}
 use Rattle.answer.specs.Ask.{Question, reply}
 use Rattle.lists.specs.Arrays.{pad}
 use Rattle.lists.specs.Bytes.{byteAt}
+use Rattle.playbook.specs.Books.{noPlans, storeOf}
 use Rattle.playbook.specs.Reading.{readFirst}
 use Rattle.playbook.specs.declared.Outcome.{Outcome}
 use Rattle.rehearsal.specs.Lines.{text, printed}
 use Rattle.rehearsal.specs.Worlds.{worldOf}
 use Rattle.rehearsal.specs.Records.{sizeOf, recordAt}
 use Rattle.rehearsal.specs.Effects.{placeOf, recordQuestions, carriedIn, worldAfter}
+use Rattle.rehearsal.specs.declared.Begun.{Begun}
 use Rattle.rehearsal.specs.declared.Line.{Line}
 use Rattle.rehearsal.specs.declared.Lines.{Lines}
 use Rattle.rehearsal.specs.declared.Next.{Next}
@@ -64,11 +66,23 @@ inputQuestions input =
     ∷ (28, leb (length (scriptIn input)) 8192)
     ∷ []
 
+-- what it is before its script: the world, and where the script begins
+abbrev pub notBegun : ℕ → Begun
+notBegun q = record { answer = q; script = 0; world = worldOf 0 (storeOf noPlans) }
+
+abbrev pub worldIn : List ℕ → World
+worldIn input = worldOf (controllersIn input) (bookIn input .playbook)
+
+unfoldable pub begunOf : List ℕ → Begun
+begunOf input =
+    reply (inputQuestions input) notBegun
+    (record { answer = 0; script = 1 + bookIn input .used; world = worldIn input })
+
 -- its lines; a fault before the script is the only one
 unfoldable pub linesOf : List ℕ → List Line
 linesOf input =
     reply (inputQuestions input) (λ q. lineOf 0 q 0 ∷ [])
-    (linesFrom 0 (scriptIn input) 1 (worldOf (controllersIn input) (bookIn input .playbook)))
+    (linesFrom 0 (scriptIn input) 1 (worldIn input))
 
 -- the rehearsal of an input, printed to an output
 abbrev pub rehearsed : List ℕ → List ℕ → Printed × List ℕ

@@ -3,6 +3,7 @@
 use controller::Controller;
 use switch::Switch;
 
+mod begins;
 mod digits;
 mod effects;
 mod keys;
@@ -13,24 +14,40 @@ mod scripts;
 mod steps;
 mod worlds;
 
+pub use begins::begin;
+pub use effects::place_at;
+pub use effects::record_question;
+pub use effects::switch_of;
+pub use records::record_at;
+pub use records::size_of;
 pub use scripts::rehearse;
+pub use steps::make_share;
+pub use steps::perform;
 
 // A kept share and the switch that it is for; an empty place has a switch past the last one.
-pub(crate) struct Place {
-    pub(crate) switch: u8,
-    pub(crate) share: [u8; message::layout::SHARE_LENGTH],
+pub struct Place {
+    pub switch: u8,
+    pub share: [u8; message::layout::SHARE_LENGTH],
 }
 
 // A world: the number of controllers, the switches, the controllers, and the places for kept shares.
-pub(crate) struct World {
-    pub(crate) n: u8,
-    pub(crate) switches: [Switch; limits::SWITCHES],
-    pub(crate) controllers: [Controller; limits::CONTROLLERS],
-    pub(crate) places: [Place; limits::PLACES],
+pub struct World {
+    pub n: u8,
+    pub switches: [Switch; limits::SWITCHES],
+    pub controllers: [Controller; limits::CONTROLLERS],
+    pub places: [Place; limits::PLACES],
+}
+
+// What an input is before its script: 0, where the script begins and the world before it; or the number of the question
+// that refuses the input, 0 and a world without controllers.
+pub struct Begun {
+    pub answer: u8,
+    pub script: usize,
+    pub world: World,
 }
 
 // The kinds of script records.
-pub(crate) enum Kind {
+pub enum Kind {
     Decide,
     Send,
     Report,
@@ -40,34 +57,34 @@ pub(crate) enum Kind {
 }
 
 // A script record: its kind, and what it names; 0 for what its kind has not.
-pub(crate) struct Record {
-    pub(crate) kind: Kind,
-    pub(crate) controller: u8,
-    pub(crate) switch: u8,
-    pub(crate) place: u8,
-    pub(crate) serial: u32,
-    pub(crate) cause: u8,
+pub struct Record {
+    pub kind: Kind,
+    pub controller: u8,
+    pub switch: u8,
+    pub place: u8,
+    pub serial: u32,
+    pub cause: u8,
 }
 
 // What stands at the front of a script: a record, or the number of the question that refuses the bytes.
-pub(crate) enum Next {
+pub enum Next {
     Found(Record),
     Refused(u8),
 }
 
 // What a record does: its answer, its figure, and the controller, the switch and the place that it was carried out on.
-pub(crate) struct Moved {
-    pub(crate) answer: u8,
-    pub(crate) figure: u32,
-    pub(crate) controller: Controller,
-    pub(crate) switch: Switch,
-    pub(crate) place: Place,
+pub struct Moved {
+    pub answer: u8,
+    pub figure: u32,
+    pub controller: Controller,
+    pub switch: Switch,
+    pub place: Place,
 }
 
 // A share made: 0 and its bytes, or the number of the question that refuses it.
-pub(crate) struct Made {
-    pub(crate) answer: u8,
-    pub(crate) share: [u8; message::layout::SHARE_LENGTH],
+pub struct Made {
+    pub answer: u8,
+    pub share: [u8; message::layout::SHARE_LENGTH],
 }
 
 // What is printed of a record: its ordinal, the answer and the figure; ordinal 0 for a fault before the script.

@@ -1,6 +1,6 @@
 // The record that stands at a place of a script.
 ghost use mathlib.Core.Path.{_≡_};
-ghost use Prim.Native.Nat.{_≤_, _<_};
+ghost use Prim.Native.Nat.{_≤_};
 ghost use lib.ListN.{length};
 ghost use Rattle.rehearsal.specs.Records.{kindOf, sizeOf, naming, recordOf, recordAt};
 ghost use Rattle.rehearsal.specs.declared.Kind.the-variants as kinds;
@@ -32,7 +32,7 @@ fn kind_of(byte: u8) -> Kind
 }
 
 // How many bytes a record has, its kind among them.
-pub(crate) fn size_of(kind: Kind) -> usize
+pub fn size_of(kind: Kind) -> usize
     ensures { λ r. ⌜ r ≡ sizeOf kind ⌝ }
 {
     match kind {
@@ -88,12 +88,11 @@ fn record_of(kind: Kind, b: &[u8]) -> Record
     }
 }
 
-// Questions 31 and 30, of bytes of which one is left.
-pub(crate) fn record_at(b: &[u8]) -> Next
-    requires { ⌜ 0 < length (now b) ⌝ }
+// The record at the front of bytes: questions 31 and 30. (Where no byte is left there is no kind: 31.)
+pub fn record_at(b: &[u8]) -> Next
     ensures { λ r. ⌜ r ≡ recordAt (now (b .entry)) ⌝ }
 {
-    let byte = b[0];
+    let byte = byte_at(b, 0);
     if byte < limits::DECIDE {
         return Next::Refused(answer::UNKNOWN_KIND);
     }

@@ -1,9 +1,7 @@
 // A script carried out record after record, and the whole input rehearsed.
 ghost use mathlib.Core.Path.{_≡_};
-ghost use mathlib.Core.Bool.{_&&_};
 ghost use mathlib.Core.List.{[], _∷_};
 ghost use Prim.Native.Nat.{_+_, _≤_};
-ghost use lib.Dec.{leb};
 ghost use lib.ListN.{length, replicate};
 ghost use Rattle.rehearsal.specs.Scripts.{lineOf, linesFrom, linesOf, rehearsed, noLine, linesStored};
 use crate::Line;
@@ -11,6 +9,7 @@ use crate::Lines;
 use crate::Next;
 use crate::Printed;
 use crate::World;
+use crate::begins::begin;
 use crate::effects::place_at;
 use crate::effects::record_question;
 use crate::effects::switch_of;
@@ -19,7 +18,6 @@ use crate::printing::print;
 use crate::records::record_at;
 use crate::records::size_of;
 use crate::steps::carry_out;
-use crate::worlds::world_of;
 
 // The line of the record after so many.
 fn line(before: usize, answer: u8, figure: u32) -> Line
@@ -119,40 +117,17 @@ fn follow(w: World, script: &[u8]) -> Lines
     }
 }
 
-// Whether a domain can have so many controllers.
-fn n_ok(n: u8) -> bool
-    ensures { λ r. ⌜ r ≡ (leb 1 n && leb n 16) ⌝ }
-{
-    if n == 0 {
-        return false;
-    }
-    n as usize <= limits::CONTROLLERS
-}
-
 // The lines of an input: a byte n, a playbook up to its end record, and a script.
 fn play(input: &[u8]) -> Lines
     ensures { λ r. ⌜ r ≡ linesStored (linesOf (now (input .entry))) ⌝ }
 {
-    if input.len() == 0 {
-        return fault(answer::CUT_SHORT);
+    let begun = begin(input);
+    if begun.answer != answer::DONE {
+        return fault(begun.answer);
     }
-    let n = input[0];
-    if !n_ok(n) {
-        return fault(answer::LIMITS_BROKEN);
-    }
-    let rest = &input[1..];
-    let book = playbook::read_first(rest);
-    if book.answer != answer::DONE {
-        return fault(book.answer);
-    }
-    let used = book.used;
-    let script = &rest[used..];
-    if limits::SCRIPT < script.len() {
-        return fault(answer::SCRIPT_TOO_LONG);
-    }
-    let p = book.playbook;
-    let w = world_of(n, p);
-    follow(w, script)
+    let world = begun.world;
+    let script = begun.script;
+    follow(world, &input[script..])
 }
 
 // The rehearsal of an input, printed to the start of an output. An output that is too short gets 25, and no byte of it

@@ -4,7 +4,7 @@ ghost use Prim.Native.Nat.{_≤_};
 ghost use lib.ListN.{length};
 ghost use Rattle.controller.specs.Changes.{meaning};
 ghost use Rattle.rehearsal.specs.Steps.{delivered, shareMade, sent, reported, kept};
-ghost use Rattle.rehearsal.specs.Steps.{byController, bySwitch, byPlace, carriedOut};
+ghost use Rattle.rehearsal.specs.Steps.{byController, bySwitch, byPlace, unmoved, carriedOut, performed};
 use crate::Kind;
 use crate::Made;
 use crate::Moved;
@@ -27,7 +27,7 @@ fn deliver(n: u8, s: Switch, switch: u8, bytes: &[u8]) -> switch::Reply
 }
 
 // The current share of a controller for a switch.
-fn make_share(c: Controller, controller: u8, switch: u8) -> Made
+pub fn make_share(c: Controller, controller: u8, switch: u8) -> Made
     ensures { λ r. ⌜ r ≡ shareMade c controller switch ⌝ }
 {
     let keys = controller_keys(controller);
@@ -140,6 +140,19 @@ fn by_place(c: Controller, s: Switch, place: Place, made: Made, switch: u8) -> M
     }
 }
 
+// Nothing moved; the figure is 0.
+fn unmoved(c: Controller, s: Switch, place: Place, answer: u8) -> Moved
+    ensures { λ m. ⌜ m ≡ unmoved c s place answer ⌝ }
+{
+    Moved {
+        answer: answer,
+        figure: 0,
+        controller: c,
+        switch: s,
+        place: place,
+    }
+}
+
 // A record carried out, with its bytes and what it names.
 pub(crate) fn carry_out(
     n: u8,
@@ -180,4 +193,18 @@ pub(crate) fn carry_out(
             by_switch(c, s, place, reply)
         }
     }
+}
+
+// A record that passed its questions, carried out. More than sixteen controllers, or less than two bytes of the record,
+// are refused by 20 and 30, and nothing moves.
+pub fn perform(n: u8, c: Controller, s: Switch, place: Place, r: Record, bytes: &[u8]) -> Moved
+    ensures { λ m. ⌜ m ≡ performed c s place n r (now (bytes .entry)) ⌝ }
+{
+    if 16 < n {
+        return unmoved(c, s, place, answer::LIMITS_BROKEN);
+    }
+    if bytes.len() < 2 {
+        return unmoved(c, s, place, answer::CUT_SHORT);
+    }
+    carry_out(n, c, s, place, r, bytes)
 }

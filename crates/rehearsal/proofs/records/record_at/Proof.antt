@@ -1,8 +1,11 @@
 -- `record_at` meets its contract: the branches answer questions 31 and 30. Assumes nothing.
+use mathlib.Core.Path.{_≡_, ap, _∙_}
 use mathlib.Core.List.{List}
 use Prim.Native.Nat.{ℕ}
 use native.Mathlib.Omega.{arith}
 use borrow.Author.Needs.{needs}
+use Rattle.lists.specs.Bytes.{byteAt}
+use Rattle.rehearsal.specs.Records.{kindOf}
 use Rattle.rehearsal.proofs.Fields.{unknown, cut, found}
 use Rattle.rehearsal.proofs.records.record_at.Statement.{statement}
 use Rattle.rehearsal.proofs.records.record_at.Tie as tie
@@ -10,6 +13,9 @@ use Rattle.rehearsal.proofs.records.record_at.Tie as tie
 -- the bytes, where their kind is known
 abbrev bytes : tie.After-kind-of → List ℕ
 bytes c = c .before .before .before .before .before .args .b .now
+
+kind-known : (c : tie.After-kind-of) → c .kind-of .result ≡ kindOf (byteAt (bytes c) 0)
+kind-known c = c .kind-of .ensures ∙ ap kindOf (c .before .before .before .byte-at .ensures)
 
 returns : tie.Need-returns
 returns c = unknown (c .before .before .before .args .b .now) (λ low high. omega arith)
@@ -21,13 +27,13 @@ returns-3 : tie.Need-returns-3
 returns-3 c =
     let sized = c .before in
     let kind = sized .before in
-    cut (bytes kind) (omega arith) (omega arith) (kind .kind-of .ensures) (sized .size-of .ensures) (omega arith)
+    cut (bytes kind) (omega arith) (omega arith) (kind-known kind) (sized .size-of .ensures) (omega arith)
 
 returns-4 : tie.Need-returns-4
 returns-4 c =
     let sized = c .before .before in
     let kind = sized .before in
-    found (bytes kind) (omega arith) (omega arith) (kind .kind-of .ensures) (sized .size-of .ensures) (omega arith)
+    found (bytes kind) (omega arith) (omega arith) (kind-known kind) (sized .size-of .ensures) (omega arith)
     (c .record-of .ensures)
 
 pub record-at-spec : {M : Type 1} → statement M

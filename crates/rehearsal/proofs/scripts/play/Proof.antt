@@ -1,76 +1,49 @@
--- `play` meets its contract: each branch answers a question of the input, and what was read of it stays known.
+-- `play` meets its contract: an input that was refused has the line of its fault, any other its script's lines.
 -- Assumes nothing.
-use mathlib.Core.Path.{_≡_, sym, _∙_}
-use mathlib.Core.Bool.{true, _&&_}
+use mathlib.Core.Path.{_≡_, ap, _∙_}
 use mathlib.Core.List.{List}
-use Prim.Native.Nat.{ℕ, _-_, _≤_}
+use Prim.Native.Nat.{ℕ}
 use native.Mathlib.Omega.{arith}
 use borrow.Author.Needs.{needs}
-use borrow.Author.Tests.{not-true, not-false}
-use lib.Dec.{leb}
-use lib.ListN.{length, take, drop}
-use Rattle.rehearsal.specs.Scripts.{controllersIn}
-use Rattle.rehearsal.proofs.Inputs.{no-input, wrong-n, few-controllers, bad-book, used-within}
-use Rattle.rehearsal.proofs.Inputs.{long-script, played}
+use Rattle.lists.proofs.Stores.{lent-rest}
+use Rattle.rehearsal.specs.Scripts.{linesOf, linesStored}
+use Rattle.rehearsal.proofs.Inputs.{Ready, ready, fault-line}
 use Rattle.rehearsal.proofs.scripts.play.Statement.{statement}
 use Rattle.rehearsal.proofs.scripts.play.Tie as tie
 
--- where the playbook was read: the input, its number of controllers, and the bytes that the playbook used
-abbrev bytes : tie.After-read-first → List ℕ
-bytes c = c .before .before .before .before .before .before .before .args .input .now
+-- the input, where it was begun
+abbrev bytes : tie.After-begin → List ℕ
+bytes c = c .before .before .args .input .now
 
-some-n : (c : tie.After-read-first) → (leb 1 (controllersIn (bytes c)) && leb (controllersIn (bytes c)) 16) ≡ true
-some-n c = sym (c .before .before .before .n-ok .ensures) ∙ not-false _ (c .before .before .if2 .left)
-
-within : (c : tie.After-read-first)
-    → c .read-first .result .used ≤ length (take (length (bytes c) - 1) (drop 1 (bytes c)))
-within c = used-within (bytes c) (omega arith) (some-n c) (c .read-first .result) (c .read-first .ensures)
+is-ready : (c : tie.After-begin) → c .begin .result .answer ≡ 0
+    → Ready (bytes c) (c .begin .result) (linesOf (bytes c))
+is-ready c good = ready (bytes c) (c .begin .ensures) good
 
 returns : tie.Need-returns
-returns c = no-input (c .before .before .before .args .input .now) (omega arith) (c .fault .ensures)
+returns c =
+    let begun = c .before .before .before in
+    c .fault .ensures ∙ ap linesStored (fault-line (bytes begun) (begun .begin .ensures) (c .before .if1 .taken))
 
-returns-2 : tie.Need-returns-2
-returns-2 c =
-    let asked = c .before .before in
-    let input = asked .before .before .before .before .args .input .now in
-    wrong-n input (omega arith) (sym (asked .n-ok .ensures) ∙ not-true _ (c .before .if2 .taken)) (c .fault2 .ensures)
+sub-follow : tie.Need-sub-follow
+sub-follow c = is-ready (c .before .before .before) (omega arith) .within
 
-returns-3 : tie.Need-returns-3
-returns-3 c =
-    let read = c .before .before .before in
-    bad-book (bytes read) (omega arith) (some-n read) (read .read-first .result) (read .read-first .ensures)
-    (c .before .if3 .taken) (c .fault3 .ensures)
-
-sub-script : tie.Need-sub-script
-sub-script c = within (c .before .before)
-
-part-script-start : tie.Need-part-script-start
-part-script-start c = within (c .before .before)
-
-returns-4 : tie.Need-returns-4
-returns-4 c =
-    let read = c .before .before .before .before .before in
-    long-script (bytes read) (omega arith) (some-n read) (read .read-first .result) (read .read-first .ensures)
-    (omega arith) (c .before .if4 .taken) (c .fault4 .ensures)
+part-follow-start : tie.Need-part-follow-start
+part-follow-start c = is-ready (c .before .before .before) (omega arith) .within
 
 follow-requires : tie.Need-follow-requires
 follow-requires c κs =
-    let read = c .before .before .before .before .before .before in
-    let few =
-    few-controllers (bytes read) (omega arith) (some-n read) (read .read-first .result) (read .read-first .ensures)
-    (c .world-of .ensures) in
-    (few, omega arith)
+    let begun = c .before .before .before .before in
+    let r = is-ready begun (omega arith) in
+    (r .few, rw (lent-rest (bytes begun) (begun .begin .result .script)) (r .short))
 
-returns-5 : tie.Need-returns-5
-returns-5 c =
-    let read = c .before .before .before .before .before .before .before in
-    played (bytes read) (omega arith) (some-n read) (read .read-first .result) (read .read-first .ensures) (omega arith)
-    (omega arith) (c .before .world-of .ensures) (c .follow .ensures)
+returns-2 : tie.Need-returns-2
+returns-2 c =
+    let begun = c .before .before .before .before .before in
+    let r = is-ready begun (omega arith) in
+    rw (lent-rest (bytes begun) (begun .begin .result .script)) at (c .follow .ensures) ∙ ap linesStored (r .lines)
 
 pub play-spec : {M : Type 1} → statement M
 play-spec =
     tie.close
-    (tie.spec (λ c κs. search needs) returns (λ c. search needs) (λ c κs. search needs) (λ c κs. search needs) returns-2
-    (λ c. search needs) (λ c. search needs) (λ c. search needs) (λ c κs. search needs) (λ c κs. search needs) returns-3
-    sub-script part-script-start (λ c. search needs) (λ c κs. search needs) returns-4 (λ c κs. search needs)
-    follow-requires returns-5)
+    (tie.spec (λ c κs. search needs) (λ c κs. search needs) returns sub-follow part-follow-start (λ c. search needs)
+    follow-requires returns-2)

@@ -1,8 +1,8 @@
 -- `n_ok` meets its contract: the branch decides the first test. Assumes nothing.
 use native.Mathlib.Omega.{arith}
 use borrow.Author.Tests.{lt-leb, le-leb}
-use Rattle.rehearsal.proofs.scripts.n_ok.Statement.{statement}
-use Rattle.rehearsal.proofs.scripts.n_ok.Tie as tie
+use Rattle.rehearsal.proofs.begins.n_ok.Statement.{statement}
+use Rattle.rehearsal.proofs.begins.n_ok.Tie as tie
 
 returns : tie.Need-returns
 returns c = rw (lt-leb 1 (c .before .args .n) (omega arith))
