@@ -1,0 +1,93 @@
+// The share that a record makes or delivers.
+ghost use Prim.Native.Nat.{_≤_};
+use controller::Controller;
+use flow::Rule;
+use lists::byte_at;
+use message::layout;
+use rehearsal::Kind;
+use rehearsal::Place;
+use rehearsal::Record;
+use switch::Slot;
+use switch::Switch;
+
+// A share's fields; `made` is false where there is none, and then they are 0.
+pub(crate) struct Share {
+    pub(crate) made: bool,
+    pub(crate) sender: u8,
+    pub(crate) number: u32,
+    pub(crate) rule: Rule,
+}
+
+pub(crate) fn no_share() -> Share {
+    Share {
+        made: false,
+        sender: 0,
+        number: 0,
+        rule: flow::rule_of(0, 0, 0),
+    }
+}
+
+// The share in a message's bytes.
+fn share_in(b: &[u8]) -> Share {
+    if byte_at(b, 0) != layout::SHARE {
+        return no_share();
+    }
+    let number = lists::u32_of(byte_at(b, 3), byte_at(b, 4), byte_at(b, 5), byte_at(b, 6));
+    let prefix = lists::u32_of(byte_at(b, 7), byte_at(b, 8), byte_at(b, 9), byte_at(b, 10));
+    let port = lists::u16_of(byte_at(b, 12), byte_at(b, 13));
+    Share {
+        made: true,
+        sender: byte_at(b, 1),
+        number: number,
+        rule: flow::rule_of(prefix, byte_at(b, 11), port),
+    }
+}
+
+fn share_made(c: Controller, controller: u8, switch: u8) -> Share {
+    let made = rehearsal::make_share(c, controller, switch);
+    let share = made.share;
+    share_in(&share)
+}
+
+// The bytes behind the first two.
+fn message_of(bytes: &[u8]) -> &[u8] {
+    if 2 <= bytes.len() { &bytes[2..] } else { bytes }
+}
+
+// The share of a record that passed its questions, with the controller that it names, the place, and the record's bytes.
+pub(crate) fn share_of(c: Controller, place: Place, r: Record, bytes: &[u8]) -> Share {
+    let kind = r.kind;
+    match kind {
+        Kind::Decide => no_share(),
+        Kind::Send => share_made(c, r.controller, r.switch),
+        Kind::Report => no_share(),
+        Kind::Raw => share_in(message_of(bytes)),
+        Kind::Keep => share_made(c, r.controller, r.switch),
+        Kind::Deliver => {
+            let share = place.share;
+            share_in(&share)
+        }
+    }
+}
+
+fn agrees(slot: Slot, number: u32, rule: Rule) -> u32
+    ensures { λ r. ⌜ r ≤ 1 ⌝ }
+{
+    let held = slot.rule;
+    if slot.number != number {
+        return 0;
+    }
+    if flow::same_rule(held, rule) { 1 } else { 0 }
+}
+
+// How many of a switch's slots hold a number and a rule.
+pub(crate) fn agreeing(s: Switch, number: u32, rule: Rule) -> u32 {
+    let slots = s.slots;
+    let mut count: u32 = 0;
+    let mut i: usize = 0;
+    while i < 16 {
+        count += agrees(slots[i], number, rule);
+        i += 1;
+    }
+    count
+}

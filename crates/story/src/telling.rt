@@ -1,0 +1,184 @@
+// A rehearsal carried out record by record, and what each did.
+use crate::STEPS;
+use crate::Step;
+use crate::Story;
+use crate::shares;
+use crate::shares::Share;
+use rehearsal::Kind;
+use rehearsal::Moved;
+use rehearsal::Next;
+use rehearsal::Place;
+use rehearsal::Record;
+use rehearsal::World;
+
+fn kind_of(kind: Kind) -> u8 {
+    match kind {
+        Kind::Decide => crate::DECIDE,
+        Kind::Send => crate::SEND,
+        Kind::Report => crate::REPORT,
+        Kind::Raw => crate::RAW,
+        Kind::Keep => crate::KEEP,
+        Kind::Deliver => crate::DELIVER,
+    }
+}
+
+// Bytes that are no record.
+fn broken(answer: u8) -> Step {
+    Step {
+        kind: crate::NO_RECORD,
+        begun: false,
+        controller: 0,
+        switch: 0,
+        place: 0,
+        serial: 0,
+        cause: 0,
+        answer: answer,
+        figure: 0,
+        shared: false,
+        number: 0,
+        rule: flow::rule_of(0, 0, 0),
+        agreeing: 0,
+    }
+}
+
+// A record that names what there is not.
+fn unbegun(r: Record, switch: u8, answer: u8) -> Step {
+    let kind = r.kind;
+    Step {
+        kind: kind_of(kind),
+        begun: false,
+        controller: r.controller,
+        switch: switch,
+        place: r.place,
+        serial: r.serial,
+        cause: r.cause,
+        answer: answer,
+        figure: 0,
+        shared: false,
+        number: 0,
+        rule: flow::rule_of(0, 0, 0),
+        agreeing: 0,
+    }
+}
+
+// The sender of a share that was not made by the controller that the record names.
+fn sender_of(r: Record, share: Share) -> u8 {
+    let kind = r.kind;
+    match kind {
+        Kind::Raw => share.sender,
+        Kind::Deliver => share.sender,
+        _ => r.controller,
+    }
+}
+
+fn begun(r: Record, switch: u8, share: Share, m: Moved) -> Step {
+    let kind = r.kind;
+    let rule = share.rule;
+    let after = m.switch;
+    Step {
+        kind: kind_of(kind),
+        begun: true,
+        controller: sender_of(r, share),
+        switch: switch,
+        place: r.place,
+        serial: r.serial,
+        cause: r.cause,
+        answer: m.answer,
+        figure: m.figure,
+        shared: share.made,
+        number: share.number,
+        rule: rule,
+        agreeing: shares::agreeing(after, share.number, rule),
+    }
+}
+
+// The first n bytes, and those behind them; all, and none, where there are fewer.
+fn front(s: &[u8], n: usize) -> &[u8] {
+    if n < s.len() { &s[0..n] } else { s }
+}
+
+fn behind(s: &[u8], n: usize) -> &[u8] {
+    if n < s.len() { &s[n..] } else { &s[0..0] }
+}
+
+fn no_steps() -> [Step; STEPS] {
+    let none = broken(0);
+    [none; STEPS]
+}
+
+// Each record is carried out on what it names, taken out of the world and put back: the world is large, and stays where
+// it is. What a record names is in the domain once its questions are passed.
+fn follow(w: World, script: &[u8]) -> Story {
+    let mut world = w;
+    let mut steps = no_steps();
+    let mut count: usize = 0;
+    let mut rest = script;
+    while count < STEPS {
+        if rest.len() == 0 {
+            break;
+        }
+        match rehearsal::record_at(rest) {
+            Next::Refused(k) => {
+                let step = broken(k);
+                steps[count] = step;
+                rest = &rest[0..0];
+            }
+            Next::Found(r) => {
+                let kept = world.places;
+                let place = rehearsal::place_at(kept, r.place);
+                let kind = r.kind;
+                let size = rehearsal::size_of(kind);
+                let switch = rehearsal::switch_of(r, place);
+                let k = rehearsal::record_question(world.n, r, place);
+                if k != answer::DONE {
+                    let step = unbegun(r, switch, k);
+                    steps[count] = step;
+                } else {
+                    let i = (r.controller % 16) as usize;
+                    let j = (switch % 16) as usize;
+                    let p = (r.place % 64) as usize;
+                    let c = world.controllers[i];
+                    let s = world.switches[j];
+                    let bytes = front(rest, size);
+                    let share = shares::share_of(c, place, r, bytes);
+                    let m = rehearsal::perform(world.n, c, s, place, r, bytes);
+                    let c = m.controller;
+                    world.controllers[i] = c;
+                    let s = m.switch;
+                    world.switches[j] = s;
+                    let q = m.place;
+                    world.places[p] = q;
+                    let step = begun(r, switch, share, m);
+                    steps[count] = step;
+                }
+                if size < rest.len() {
+                    rest = &rest[size..];
+                } else {
+                    rest = &rest[0..0];
+                }
+            }
+        }
+        count += 1;
+    }
+    Story {
+        answer: answer::DONE,
+        steps: steps,
+        count: count,
+        world: world,
+    }
+}
+
+// The story of an input.
+pub fn tell(input: &[u8]) -> Story {
+    let begun = rehearsal::begin(input);
+    let world = begun.world;
+    if begun.answer != answer::DONE {
+        return Story {
+            answer: begun.answer,
+            steps: no_steps(),
+            count: 0,
+            world: world,
+        };
+    }
+    follow(world, behind(input, begun.script))
+}
