@@ -105,21 +105,29 @@ class Rehearsal:
         return (length,) + getattr(self, call)(*struct.unpack(fields, s[1:length]))
 
 
-def rehearse(s):
-    """The lines for an input."""
+def begun(s):
+    """What an input is before its script: the number that refuses it, or 0; the ends, and the script."""
     if not s:
-        return ["0 30 0"]
+        return 30, None, b""
     if not 1 <= s[0] <= 16:
-        return ["0 20 0"]
+        return 20, None, b""
     answer, used, plans, changes = read_first(s[1:])
     if answer != 0:
-        return ["0 %d 0" % answer]
+        return answer, None, b""
     script = s[1 + used:]
     if len(script) > LONGEST_SCRIPT:
-        return ["0 28 0"]
+        return 28, None, b""
     changes = [(flow, switch, (prefix, length, port)) for flow, switch, prefix, length, port in changes]
     book = Book([((switch, cause), changes[first:first + count]) for switch, cause, first, count in plans])
-    rehearsal, lines = Rehearsal(s[0], book), []
+    return 0, Rehearsal(s[0], book), script
+
+
+def rehearse(s):
+    """The lines for an input."""
+    answer, rehearsal, script = begun(s)
+    if answer != 0:
+        return ["0 %d 0" % answer]
+    lines = []
     while script:
         length, answer, figure = rehearsal.record(script)
         lines.append("%d %d %d" % (len(lines) + 1, answer, figure))

@@ -5,6 +5,7 @@ use crate::figures::say_count;
 use crate::figures::say_name;
 use crate::figures::say_rule;
 use crate::meanings::say_meaning;
+use flow::Rule;
 use prose::say;
 use prose::say_number;
 
@@ -129,31 +130,43 @@ fn say_figure(step: Step) {
     }
 }
 
-// The share that was held, and how many controllers ask for the same.
-fn say_held(n: u8, step: Step) {
+// How many controllers ask for a share's change.
+fn say_agreeing(n: u8, step: Step) {
     let rule = step.rule;
     say(b"; ");
     say_change(step.number, rule);
-    if step.kind != crate::KEEP {
-        say(b", has ");
-        say_number(step.agreeing as u64);
-        say(b" of ");
-        say_number(switch::quorum(n) as u64);
-        say(b" controllers");
-    }
+    say(b", has ");
+    say_number(step.agreeing as u64);
+    say(b" of ");
+    say_number(switch::quorum(n) as u64);
+    say(b" controllers");
+}
+
+// What a share asks for that was refused, or kept.
+fn say_wish(step: Step) {
+    let rule = step.rule;
+    say(b"; it asks for ");
+    say_change(step.number, rule);
+}
+
+fn say_applied(rule: Rule) {
+    say(b", ");
+    say_rule(rule);
 }
 
 // What is told of a share beside the figure.
 fn say_share(n: u8, step: Step) {
+    let rule = step.rule;
     let answer = step.answer;
+    if step.kind == crate::KEEP {
+        say_wish(step);
+        return;
+    }
     match answer {
-        answer::DONE => say_held(n, step),
-        answer::APPLIED => {
-            let rule = step.rule;
-            say(b", ");
-            say_rule(rule);
-        }
-        _ => say(b""),
+        answer::DONE => say_agreeing(n, step),
+        answer::APPLIED => say_applied(rule),
+        answer::REPEAT => say_agreeing(n, step),
+        _ => say_wish(step),
     }
 }
 

@@ -1,0 +1,227 @@
+"""Explanations of rehearsals, worked out from document 01 with Python's own library: the playbook, each record in words
+beside its line, and the ends after the last one.
+
+    python3 tests/stories.py FILE                   the explanation of an input
+    python3 tests/stories.py compare PROGRAM FILE.. which inputs the program explains otherwise
+
+Nothing here is taken from the crates but the wording. Names and numbers are document 01's.
+"""
+import struct
+import subprocess
+import sys
+
+from rehearsals import RECORDS, begun
+from trials import read_first
+
+MEANINGS = {
+    11: "it is no share",
+    12: "there is no such controller or switch",
+    13: "it is for another switch",
+    14: "its tag does not match",
+    15: "the rule is not well formed",
+    16: "too late, its number is not above the last applied",
+    17: "its number is below that of the share held from this controller",
+    18: "this controller has asked for another rule under this number",
+    19: "the flow table is full",
+    20: "there can be 1 to 16 controllers",
+    22: "its serial is not above the last one decided for that switch",
+    24: "more than 64 changes would be undone",
+    26: "nothing is ready to send",
+    28: "the script is longer than 8192 bytes",
+    29: "the places are 0 to 63",
+    30: "bytes are missing",
+    31: "no record here has this kind",
+    34: "a change stands before any plan",
+    35: "two plans have the same switch and cause",
+    36: "more than 64 plans, 512 changes, or 32 changes in a plan",
+    37: "more than 64 different prefixes with lengths on one switch",
+}
+DONE = {"decide": "taken", "report": "taken", "keep": "kept"}
+
+
+def route(rule):
+    prefix, length, port = rule
+    address = ".".join(str(byte) for byte in struct.pack(">I", prefix))
+    return "%s/%d %s" % (address, length, "to port %d" % port if port else "removed")
+
+
+def undone(count):
+    return "%s undone change%s" % (count or "no", "s" if count > 1 else "")
+
+
+def fields(share):
+    """The sender, the number and the rule of a share's bytes, or none where they are no share's."""
+    if share is None or share[0] != 2:
+        return None
+    sender, number, prefix, length, port = struct.unpack(">xBxIIBH16x", share)
+    return sender, number, (prefix, length, port)
+
+
+def asked(call, given, share):
+    """What a record asks for."""
+    if call == "decide":
+        return "controller %d decides on event %d of switch %d, cause %d" % (given[0], given[2], given[1], given[3])
+    if call == "send":
+        return "controller %d sends its share to switch %d" % given
+    if call == "report":
+        return "switch %d reports to controller %d" % given
+    if call == "keep":
+        return "controller %d makes its share for switch %d, kept in place %d" % given
+    if call == "raw":
+        if share is None:
+            return "bytes written out reach switch %d" % given[0]
+        return "a share in the name of controller %d, written out, reaches switch %d" % (share[0], given[0])
+    if share is None:
+        return "the share kept in place %d is due" % given
+    return "the share of controller %d kept in place %d reaches switch %d" % (share[0], given[0], share[3])
+
+
+def came(call, answer):
+    """What came of it."""
+    if answer == 0:
+        return DONE.get(call, "held")
+    if answer == 26 and call == "deliver":
+        return "refused, nothing is kept in that place"
+    return {1: "applied", 2: "a repeat, nothing changed"}.get(answer) or "refused, " + MEANINGS[answer]
+
+
+def bytes_at_hand(world, call, given):
+    """The message that a record of a call delivers or keeps, before it is carried out."""
+    if call == "raw":
+        return given[1]
+    if call == "deliver":
+        kept = world.places[given[0]] if given[0] < 64 else None
+        return kept and kept[1]
+    if call in ("send", "keep") and world.known(given[1], given[0]):
+        answer, share = world.made(given[0], given[1])
+        return share if answer == 0 else None
+    return None
+
+
+def reached(call, given, kept):
+    """The controller and the switch that a record names; of a kept share, its own switch."""
+    if call in ("report", "raw"):
+        return given[1] if call == "report" else 0, given[0]
+    if call == "deliver":
+        return 0, kept
+    return given[0], given[1]
+
+
+def wished(world, call, answer, switch, share):
+    """What is told of a share beside the figure."""
+    number, rule = share[1], share[2]
+    if answer == 1:
+        return ", " + route(rule)
+    if call == "keep" or answer > 2:
+        return "; it asks for change %d, %s" % (number, route(rule))
+    agreeing = sum(slot == (number, rule) for slot in world.switches[switch].slots)
+    return "; change %d, %s, has %d of %d controllers" % (number, route(rule), agreeing, (world.n - 1) // 3 + 1)
+
+
+def words(world, s):
+    """The record that s begins with, carried out: its length, or none where the run stops, its answer and figure, and
+    its words."""
+    call, form = RECORDS.get(s[0], (None, ""))
+    if call is None or 1 + struct.calcsize(form) > len(s):
+        _, answer, figure = world.record(s)
+        return None, answer, figure, "here the script stops: refused, " + MEANINGS[answer]
+    given = struct.unpack_from(form, s, 1)
+    kept = world.places[given[0]] if call == "deliver" and given[0] < 64 else None
+    controller, switch = reached(call, given, kept[0] if kept else 16)
+    known = world.known(switch, controller) and (call != "keep" or given[2] < 64)
+    share = fields(bytes_at_hand(world, call, given)) if known else None
+    if share and call == "deliver":
+        share += (switch,)
+    length, answer, figure = world.record(s)
+    told = "%s: %s" % (asked(call, given, share), came(call, answer))
+    if known and call in ("decide", "report"):
+        told += "; controller %d has %s" % (controller, undone(figure))
+    elif known:
+        told += "; switch %d is at change %d" % (switch, figure)
+    if share:
+        told += wished(world, call, answer, switch, share)
+    return length, answer, figure, told
+
+
+def fault(s, answer):
+    """A fault before the script; of a playbook, the first record that leaves no good beginning."""
+    told = "0 %d 0  before the script: refused, %s" % (answer, MEANINGS[answer])
+    if answer in (20, 28, 30):
+        return told
+    book, at, count = s[1:], 0, 0
+    while True:
+        at += {0x11: 3, 0x12: 10}.get(book[at], 1)
+        count += 1
+        if read_first(book[:at] + b"\x13")[0] != 0:
+            return told + ", in the playbook's record %d" % count
+
+
+def ends(world):
+    """The ends after the last record."""
+    lines, fresh = [], []
+    for end in world.switches:
+        if end.last == 0 and not any(end.slots):
+            fresh.append(str(end.id))
+            continue
+        lines.append("switch %d is at change %d%s" % (end.id, end.last, ":" if end.entries else ", with no entry"))
+        lines += ["  " + route(entry) for entry in end.entries]
+        lines += [
+            "  holds from controller %d: change %d, %s" % (c, slot[0], route(slot[1]))
+            for c, slot in enumerate(end.slots) if slot
+        ]
+    if fresh:
+        lines.append("at change 0, with no entry, are switches " + " ".join(fresh))
+    for end in world.controllers:
+        lines.append("controller %d has %s%s" % (end.id, undone(end.count), ":" if end.count else ""))
+        lines += [
+            "  change %d, %s, on switch %d, flow %d" % (number, route(rule), switch, flow)
+            for number, _, flow, switch, rule in end.undone()
+        ]
+    return lines
+
+
+def plans(book):
+    lines = []
+    for switch, cause, first, count in book.plans[:book.planned]:
+        lines.append("when switch %d tells of cause %d:%s" % (switch, cause, "" if count else " no change"))
+        lines += ["  flow %d, switch %d: %s" % (f, s, route(r)) for f, s, r in book.changes[first:first + count]]
+    return lines
+
+
+def explain(s):
+    answer, world, script = begun(s)
+    if answer != 0:
+        return [fault(s, answer)]
+    quorum = (world.n - 1) // 3 + 1
+    lines = ["%d controller%s; a change needs %d of them" % (world.n, "s" if world.n > 1 else "", quorum), ""]
+    lines += plans(world.controllers[0].book) + [""]
+    count = 0
+    while script:
+        count += 1
+        length, answer, figure, told = words(world, script)
+        lines.append("%d %d %d  %s" % (count, answer, figure, told))
+        script = script[length:] if length else b""
+    return lines + [""] + ends(world)
+
+
+def text(name):
+    with open(name, "rb") as file:
+        return "".join(line + "\n" for line in explain(file.read())).encode()
+
+
+def main():
+    if len(sys.argv) == 2:
+        sys.stdout.buffer.write(text(sys.argv[1]))
+        return
+    if len(sys.argv) < 4 or sys.argv[1] != "compare":
+        sys.exit(__doc__)
+    wrong = []
+    for name in sys.argv[3:]:
+        with open(name, "rb") as file:
+            if subprocess.run([sys.argv[2]], stdin=file, stdout=subprocess.PIPE).stdout != text(name):
+                wrong.append("%s is explained otherwise than worked out" % name)
+    sys.exit("\n".join(wrong) or 0)
+
+
+if __name__ == "__main__":
+    main()
