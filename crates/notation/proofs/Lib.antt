@@ -1,0 +1,3 @@
+-- Laws of the notation's tables.
+pub mod Places
+pub mod Sizes
