@@ -1,0 +1,107 @@
+// Prints the notation of a rehearsal (docs/NOTATION.md): reads its bytes from standard input whole and writes the text
+// that stands for them to standard output.
+mod fields;
+
+ghost use mathlib.Core.Path.{_≡_};
+ghost use lib.ListN.{length};
+use fields::say_bytes;
+use fields::say_fields;
+use fields::say_name;
+use libc::STDERR_FILENO;
+use libc::STDIN_FILENO;
+use lists::byte_at;
+use notation::LINE;
+use notation::kinds;
+use prose::say;
+use prose::say_number;
+
+// The longest input, and one byte further to tell a longer one.
+const SPACE: usize = notation::INPUT + 1;
+
+fn for_input() -> [u8; SPACE]
+    ensures { λ r. ⌜ 16385 ≡ length r ⌝ }
+{
+    [0u8; SPACE]
+}
+
+// What stands before the name of a record: a blank line before a plan, and two spaces before a change of it.
+fn say_before(kind: u8) {
+    match kind {
+        kinds::PLAN => say(b"\n"),
+        kinds::CHANGE => say(b"  "),
+        _ => say(b""),
+    }
+}
+
+// What ends its line: after the playbook's end a blank line too.
+fn say_after(kind: u8) {
+    match kind {
+        kinds::END => say(b"\n\n"),
+        _ => say(b"\n"),
+    }
+}
+
+fn say_record(kind: u8, record: &[u8]) {
+    say_before(kind);
+    say_name(notation::name_of_kind(kind));
+    say_fields(kind, record);
+    say_after(kind);
+}
+
+fn say_line_of_bytes(s: &[u8]) {
+    say(b"bytes");
+    say_bytes(s);
+    say(b"\n");
+}
+
+// What is no record, in full lines but for the last.
+fn say_unnamed(s: &[u8]) {
+    let mut rest = s;
+    while LINE < rest.len() {
+        say_line_of_bytes(&rest[0..LINE]);
+        rest = &rest[LINE..];
+    }
+    say_line_of_bytes(rest);
+}
+
+fn say_controllers(n: u8) {
+    say(b"controllers ");
+    say_number(n as u64);
+    say(b"\n");
+}
+
+// Record after record, up to what is none.
+fn say_records(s: &[u8]) {
+    let mut rest = s;
+    while 0 < rest.len() {
+        let kind = byte_at(rest, 0);
+        let size = notation::size_of(kind);
+        if size == 0 {
+            say_unnamed(rest);
+            return;
+        }
+        if rest.len() < size {
+            say_unnamed(rest);
+            return;
+        }
+        say_record(kind, &rest[0..size]);
+        rest = &rest[size..];
+    }
+}
+
+fn disassemble(input: &[u8]) {
+    if 0 < input.len() {
+        say_controllers(byte_at(input, 0));
+        say_records(&input[1..]);
+    }
+}
+
+fn main() {
+    let mut space = for_input();
+    let n = io::read_full(STDIN_FILENO, &mut space);
+    if n == SPACE {
+        io::write_all(STDERR_FILENO, b"expected at most 16384 bytes\n");
+    } else {
+        disassemble(&space[..n]);
+    }
+}
