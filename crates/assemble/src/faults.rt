@@ -1,8 +1,8 @@
 // What was expected where a line has a fault, and the line on standard error that says so.
 use libc::STDERR_FILENO;
+use lists::front;
 use notation::Field;
 use notation::Name;
-use notation::parts::front;
 
 pub(crate) enum Fault {
     None,

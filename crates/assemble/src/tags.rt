@@ -10,25 +10,25 @@ use crate::parse::is_fine;
 use crate::parse::is_next;
 use crate::parse::passed;
 use crate::parse::with_bytes;
+use lists::behind;
+use lists::front;
 use message::layout;
 use notation::Field;
 use notation::Giver;
 use notation::LINE;
 use notation::MESSAGE_AT;
-use notation::parts::after;
-use notation::parts::between;
 
 // The tag that a pair's key gives the share of a raw record.
 fn given_by(controller: u8, switch: u8, raw: [u8; LINE]) -> [u8; tag::LENGTH] {
     let all: &[u8] = &raw;
-    let body = between(all, MESSAGE_AT, MESSAGE_AT + layout::SHARE_BODY);
+    let body = front(behind(all, MESSAGE_AT), layout::SHARE_BODY);
     notation::tag_by(controller, switch, body)
 }
 
 // Whose key gives the share of a raw record its tag.
 fn giver_in(raw: [u8; LINE]) -> Giver {
     let all: &[u8] = &raw;
-    notation::giver_of(after(all, MESSAGE_AT))
+    notation::giver_of(behind(all, MESSAGE_AT))
 }
 
 // The tag that the key of a pair gives.

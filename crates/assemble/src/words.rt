@@ -1,10 +1,9 @@
 // A line's words, and the numbers, addresses and bytes that words are.
 ghost use Prim.Native.Nat.{_≤_};
 ghost use lib.ListN.{length};
+use lists::behind;
 use lists::byte_at;
-use notation::parts::after;
-use notation::parts::between;
-use notation::parts::front;
+use lists::front;
 
 // A number that no field takes: what a word is that is no number.
 const NO_NUMBER: u64 = 10000000000;
@@ -75,7 +74,7 @@ pub(crate) fn past(line: &[u8], at: usize) -> usize {
 pub(crate) fn word(line: &[u8], at: usize) -> &[u8] {
     let from = start_from(line, at);
     let to = end_from(line, from);
-    between(line, from, to)
+    behind(front(line, to), from)
 }
 
 // A number with one digit more.
@@ -148,7 +147,7 @@ pub(crate) fn address_of(word: &[u8]) -> Address {
             return no_address();
         }
         parts[i] = x as u8;
-        rest = after(&rest[n..], 1);
+        rest = behind(&rest[n..], 1);
         i += 1;
     }
     Address {

@@ -10,14 +10,12 @@ use flow::Action;
 use flow::Rule;
 use libc::STDOUT_FILENO;
 use lists::byte_at;
+pub use prose::say;
 
-pub fn say(text: &[u8]) {
-    io::write_all(STDOUT_FILENO, text);
-}
-
+// A number, with a space before it.
 pub fn say_number(n: u64) {
     say(b" ");
-    io::print_decimal(STDOUT_FILENO, n);
+    prose::say_number(n);
 }
 
 pub fn say_byte(n: u8) {

@@ -1,11 +1,11 @@
 // Records, messages and their fields, printed. Each function prints the space before what it prints.
+use lists::behind;
 use lists::byte_at;
+use lists::front;
 use message::layout;
 use notation::Field;
 use notation::Giver;
 use notation::Name;
-use notation::parts::after;
-use notation::parts::front;
 use prose::say;
 use prose::say_hex;
 use prose::say_number;
@@ -55,7 +55,7 @@ fn say_tag(share: &[u8]) {
     match notation::giver_of(share) {
         Giver::Nobody => {
             say(b" tag");
-            say_bytes(after(share, layout::SHARE_BODY));
+            say_bytes(behind(share, layout::SHARE_BODY));
         }
         Giver::Pair { controller, switch } => say_key(controller, switch),
     }
@@ -89,12 +89,12 @@ fn say_plain(field: Field, share: &[u8], s: &[u8]) {
 }
 
 fn say_share_fields(share: &[u8]) {
-    let mut rest = after(share, 1);
+    let mut rest = behind(share, 1);
     let mut i: u8 = 0;
     while i < notation::FIELDS {
         let field = notation::field_of(layout::SHARE, i);
         say_plain(field, share, rest);
-        let next = after(rest, notation::width_of(field));
+        let next = behind(rest, notation::width_of(field));
         rest = next;
         i += 1;
     }
@@ -119,12 +119,12 @@ fn say_field(field: Field, s: &[u8]) {
 
 // The fields of a record.
 pub(crate) fn say_fields(kind: u8, record: &[u8]) {
-    let mut rest = after(record, 1);
+    let mut rest = behind(record, 1);
     let mut i: u8 = 0;
     while i < notation::FIELDS {
         let field = notation::field_of(kind, i);
         say_field(field, rest);
-        let next = after(rest, notation::width_of(field));
+        let next = behind(rest, notation::width_of(field));
         rest = next;
         i += 1;
     }

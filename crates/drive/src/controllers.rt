@@ -282,7 +282,7 @@ pub(crate) fn call(
     body: &[u8],
 ) -> Controller {
     let bytes = store.bytes;
-    let keys = stores::front(&bytes[..], store.length);
+    let keys = lists::front(&bytes[..], store.length);
     match letter {
         b's' => set_up(book, body),
         b'm' => receive(c, keys, body),

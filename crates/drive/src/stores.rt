@@ -26,8 +26,3 @@ pub(crate) fn store_of(s: &[u8]) -> Store {
         length: i,
     }
 }
-
-// The first n bytes, or all where there are fewer.
-pub(crate) fn front(s: &[u8], n: usize) -> &[u8] {
-    if n < s.len() { &s[0..n] } else { s }
-}

@@ -285,7 +285,7 @@ fn alter(s: Switch, body: &[u8]) -> Switch {
 
 pub(crate) fn call(s: Switch, store: Store, letter: u8, body: &[u8]) -> Switch {
     let bytes = store.bytes;
-    let keys = stores::front(&bytes[..], store.length);
+    let keys = lists::front(&bytes[..], store.length);
     match letter {
         b'S' => set_up(body),
         b'M' => receive(s, keys, body),

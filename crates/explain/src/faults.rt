@@ -1,6 +1,7 @@
 // Where a playbook is refused: at the first record with which its beginning is refused by another number than 30, which
 // every good beginning without an end gets.
 use lists::byte_at;
+use lists::front;
 use story::say_name;
 
 // No playbook has more records: 64 plans, 512 changes, an end, and the one that is too many.
@@ -12,11 +13,6 @@ fn size_of(kind: u8) -> usize {
         0x12 => 10,
         _ => 1,
     }
-}
-
-// The first n bytes, or all where there are fewer.
-fn front(s: &[u8], n: usize) -> &[u8] {
-    if n < s.len() { &s[0..n] } else { s }
 }
 
 // The place after the record at a place.

@@ -1,8 +1,9 @@
 // Definitions and laws of lists: arrays with a count as lists, tests of every element, different members, and numbers
-// as bytes. The crates above cite specs/ in their contracts and proofs/ in their proofs. The only code reads bytes and
-// makes numbers of them.
+// as bytes. The crates above cite specs/ in their contracts and proofs/ in their proofs. The only code reads bytes, makes
+// numbers of them and lends parts of them.
 ghost use mathlib.Core.Path.{_≡_};
 ghost use mathlib.Core.List.{[], _∷_};
+ghost use lib.ListN.{take, drop};
 ghost use Rattle.lists.specs.Bytes.{num, byteAt};
 
 // The number of two bytes, the higher first.
@@ -24,4 +25,18 @@ pub fn byte_at(s: &[u8], i: usize) -> u8
     ensures { λ r. ⌜ r ≡ byteAt (now (s .entry)) i ⌝ }
 {
     if i < s.len() { s[i] } else { 0 }
+}
+
+// The first n bytes, or all where there are fewer.
+pub fn front(s: &[u8], n: usize) -> &[u8]
+    ensures { λ r. ⌜ now r ≡ take n (now (s .entry)) ⌝ }
+{
+    if n < s.len() { &s[0..n] } else { s }
+}
+
+// The bytes behind the first n, or none where there are fewer.
+pub fn behind(s: &[u8], n: usize) -> &[u8]
+    ensures { λ r. ⌜ now r ≡ drop n (now (s .entry)) ⌝ }
+{
+    if n < s.len() { &s[n..] } else { &s[0..0] }
 }

@@ -5,7 +5,6 @@ mod fields;
 pub mod kinds;
 mod names;
 mod pairs;
-pub mod parts;
 
 pub use fields::field_of;
 pub use fields::width_of;

@@ -1,7 +1,7 @@
 // The names of records and of fields.
 use crate::Field;
 use crate::kinds;
-use crate::parts::front;
+use lists::front;
 
 // The longest name.
 const LONGEST: usize = 10;

@@ -1,7 +1,7 @@
 // The keys of a rehearsal (document 01, "Rehearsal program"), the tags that they give, and which of them gives a tag.
 use crate::Giver;
-use crate::parts::after;
-use crate::parts::front;
+use lists::behind;
+use lists::front;
 use message::layout;
 
 // The key of a pair: its controller, its switch and thirty zeros.
@@ -26,7 +26,7 @@ fn gives(controller: u8, switch: u8, body: &[u8], given: &[u8]) -> bool {
 // The first pair, by controller and then by switch, whose key gives a share the tag that it has.
 pub fn giver_of(share: &[u8]) -> Giver {
     let body = front(share, layout::SHARE_BODY);
-    let given = after(share, layout::SHARE_BODY);
+    let given = behind(share, layout::SHARE_BODY);
     let mut i: u16 = 0;
     while i < 256 {
         let controller = (i / 16) as u8;

@@ -2,6 +2,7 @@
 ghost use Prim.Native.Nat.{_≤_};
 use controller::Controller;
 use flow::Rule;
+use lists::behind;
 use lists::byte_at;
 use message::layout;
 use rehearsal::Kind;
@@ -49,11 +50,6 @@ fn share_made(c: Controller, controller: u8, switch: u8) -> Share {
     share_in(&share)
 }
 
-// The bytes behind the first two.
-fn message_of(bytes: &[u8]) -> &[u8] {
-    if 2 <= bytes.len() { &bytes[2..] } else { bytes }
-}
-
 // The share of a record that passed its questions, with the controller that it names, the place, and the record's bytes.
 pub(crate) fn share_of(c: Controller, place: Place, r: Record, bytes: &[u8]) -> Share {
     let kind = r.kind;
@@ -61,7 +57,7 @@ pub(crate) fn share_of(c: Controller, place: Place, r: Record, bytes: &[u8]) -> 
         Kind::Decide => no_share(),
         Kind::Send => share_made(c, r.controller, r.switch),
         Kind::Report => no_share(),
-        Kind::Raw => share_in(message_of(bytes)),
+        Kind::Raw => share_in(behind(bytes, 2)),
         Kind::Keep => share_made(c, r.controller, r.switch),
         Kind::Deliver => {
             let share = place.share;

@@ -4,6 +4,8 @@ use crate::Step;
 use crate::Story;
 use crate::shares;
 use crate::shares::Share;
+use lists::behind;
+use lists::front;
 use rehearsal::Kind;
 use rehearsal::Moved;
 use rehearsal::Next;
@@ -90,15 +92,6 @@ fn begun(r: Record, switch: u8, share: Share, m: Moved) -> Step {
         rule: rule,
         agreeing: shares::agreeing(after, share.number, rule),
     }
-}
-
-// The first n bytes, and those behind them; all, and none, where there are fewer.
-fn front(s: &[u8], n: usize) -> &[u8] {
-    if n < s.len() { &s[0..n] } else { s }
-}
-
-fn behind(s: &[u8], n: usize) -> &[u8] {
-    if n < s.len() { &s[n..] } else { &s[0..0] }
 }
 
 fn no_steps() -> [Step; STEPS] {
