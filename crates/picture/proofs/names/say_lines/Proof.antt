@@ -1,0 +1,17 @@
+-- Each row is looked at once. Assumes nothing.
+use Prim.Native.Nat.{_≤_, _-_}
+use borrow.Author.Needs.{needs}
+use Rattle.picture.proofs.names.say_lines.Statement.{statement}
+use Rattle.picture.proofs.names.say_lines.Tie as tie
+
+abbrev Inv-loop : tie.InvT-loop
+Inv-loop rows right i₀ i = i ≤ 16
+
+abbrev μ-loop : tie.MeasureT-loop
+μ-loop rows right i₀ i = 16 - i
+
+pub say-lines-spec : {M : Type 1} → statement M
+say-lines-spec =
+    tie.close
+    (tie.spec Inv-loop μ-loop (λ c. search needs) (λ c κs. search needs) (λ c κs. search needs) (λ c. search needs)
+    (λ c. search needs) (λ c. search needs) (λ c. search needs))

@@ -1,0 +1,117 @@
+// The rows: the controllers, and below them the switches that some record reached. Above them is a line for what
+// belongs to no row, if there is such a step.
+ghost use Prim.Native.Nat.{_+_, _≤_};
+use crate::reached;
+use crate::reached::Reached;
+use story::STEPS;
+use story::Step;
+
+// The records' ordinals, and what belongs to no row.
+pub(crate) const ORDINALS: u64 = 66;
+
+pub(crate) const OUTSIDE: u64 = 96;
+
+const HEIGHT: u64 = 36;
+
+// How many controllers there are; whether a step belongs to no row; how deep each switch's row lies, 0 for a switch
+// without one; the answers and figures below the rows, and where the picture of them ends.
+pub(crate) struct Rows {
+    pub(crate) n: u8,
+    pub(crate) outside: bool,
+    pub(crate) switches: [u64; 16],
+    pub(crate) answers: u64,
+    pub(crate) figures: u64,
+    pub(crate) bottom: u64,
+}
+
+// The first row.
+fn first(outside: bool) -> u64
+    ensures { λ r. ⌜ r ≤ 136 ⌝ }
+{
+    if outside { OUTSIDE + 40 } else { OUTSIDE }
+}
+
+// Row k, counted from the first.
+fn row(outside: bool, k: u8) -> u64
+    requires { ⌜ k ≤ 16 ⌝ }
+    ensures { λ r. ⌜ r ≤ 712 ⌝ }
+{
+    first(outside) + HEIGHT * (k as u64)
+}
+
+fn at_most_16(n: u8) -> u8
+    ensures { λ r. ⌜ r ≤ 16 ⌝ }
+{
+    if n <= 16 { n } else { 16 }
+}
+
+fn depth_if(there: bool, y: u64) -> u64 {
+    if there { y } else { 0 }
+}
+
+// The next row after one that may be there.
+fn below(there: bool, y: u64) -> u64
+    requires { ⌜ y ≤ 2000 ⌝ }
+    ensures { λ r. ⌜ r ≤ y + 36 ⌝ }
+{
+    if there { y + HEIGHT } else { y }
+}
+
+// The switches begin a little below the controllers.
+fn rows_with(n: u8, outside: bool, reached: Reached) -> Rows
+    ensures { λ r. ⌜ r .bottom ≤ 1500 ⌝ }
+{
+    let there = reached.switches;
+    let mut switches = [0u64; 16];
+    let mut y = row(outside, at_most_16(n)) + 20;
+    let mut i: usize = 0;
+    while i < 16 {
+        switches[i] = depth_if(there[i], y);
+        let next = below(there[i], y);
+        y = next;
+        i += 1;
+    }
+    Rows {
+        n: n,
+        outside: outside,
+        switches: switches,
+        answers: y,
+        figures: y + 16,
+        bottom: y + 30,
+    }
+}
+
+pub(crate) fn rows_of(n: u8, steps: [Step; STEPS], count: usize) -> Rows
+    ensures { λ r. ⌜ r .bottom ≤ 1500 ⌝ }
+{
+    let reached = reached::reached_by(steps, count);
+    let outside = reached::any_outside(n, reached, steps, count);
+    rows_with(n, outside, reached)
+}
+
+// How deep an end's row lies, or what has none.
+pub(crate) fn controller_y(rows: Rows, controller: u8) -> u64 {
+    if controller < rows.n {
+        row(rows.outside, at_most_16(controller))
+    } else {
+        OUTSIDE
+    }
+}
+
+pub(crate) fn has_switch(rows: Rows, switch: u8) -> bool {
+    let switches = rows.switches;
+    if switch < 16 {
+        switches[switch as usize] != 0
+    } else {
+        false
+    }
+}
+
+pub(crate) fn switch_y(rows: Rows, switch: u8) -> u64 {
+    let switches = rows.switches;
+    if has_switch(rows, switch) {
+        switches[(switch % 16) as usize]
+    } else {
+        OUTSIDE
+    }
+}
