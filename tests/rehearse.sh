@@ -2,33 +2,15 @@
 # The program rehearse prints the expected lines for every case of tests/cases, and for inputs that come in pieces, are
 # empty, too long or not there at all; no case is lost; and bin/rehearse builds, rehearses and refuses as it says.
 set -u
-export PYTHONDONTWRITEBYTECODE=1
-program=$(pwd)/target/bin/rehearse
+script=rehearse.sh
+. tests/counting
+there rehearse
+program=$programs/rehearse
 cases=$(pwd)/tests/cases
 command=$(pwd)/bin/rehearse
-if [ ! -x "$program" ]; then
-    echo "tests/rehearse.sh: target/bin/rehearse is not there; rt check rehearse makes it"
-    echo "0 passed, 1 failed"
-    exit 1
-fi
-work=${TMPDIR:-/tmp}/rehearse-test.$$
-trap 'rm -rf "$work"' EXIT
-trap 'exit 1' HUP INT TERM
-mkdir "$work" || exit 1
 # A program that hangs fails its test, where the system can stop it.
 limit=
 if command -v timeout >/dev/null; then limit='timeout 10'; fi
-passed=0
-failed=0
-
-ended() {
-    if [ "$1" -eq 0 ]; then
-        passed=$((passed + 1))
-    else
-        echo "tests/rehearse.sh: $2"
-        failed=$((failed + 1))
-    fi
-}
 
 # prints NAME EXPECTED: on this function's standard input the program prints the file EXPECTED, and ends well.
 prints() {
@@ -57,12 +39,7 @@ cmp "$work/in" "$work/out"
 ended $? 'a case has no .out, or an .out has no case'
 cmp "$work/in" "$work/index"
 ended $? 'a case has no line in INDEX.txt, or two, or a line has no case'
-if command -v python3 >/dev/null; then
-    python3 tests/rehearsals.py cases
-    ended $? 'tests/rehearsals.py works out other lines, or EVENINGS.md tells others'
-else
-    echo "tests/rehearse.sh: no Python 3, so the cases are not compared with tests/rehearsals.py"
-fi
+by_python 'tests/rehearsals.py works out other lines, or EVENINGS.md tells others' tests/rehearsals.py cases
 
 # Inputs of any length, however they come
 
@@ -126,7 +103,7 @@ ended $? 'the program does not end by itself when standard input is closed'
 # bin/rehearse
 
 # tried NAME STATUS EXPECTED SAYS COMMAND..: the command ends with the status and prints the file EXPECTED; its standard
-# error matches the pattern SAYS, and is one line where the status is 2.
+# error matches the pattern SAYS; where the status is 2 or 3 it is one line, beside the one on the input's form.
 tried() {
     name=$1 status=$2 expected=$3 says=$4
     shift 4
@@ -136,31 +113,75 @@ tried() {
     case $said in
     $says)
         cmp "$expected" "$work/printed" && [ $got -eq "$status" ] &&
-            { [ $got -ne 2 ] || [ "$(wc -l <"$work/errors")" -eq 1 ]; }
+            { [ $got -lt 2 ] || [ "$(grep -c -v ' is in ' "$work/errors")" -eq 1 ]; }
         ;;
     *) false ;;
     esac
-    ended $? "bin/rehearse, $name: status $got, and it says: $said"
+    ended $? "bin/, $name: status $got, and it says: $said"
 }
 in_folder() {
     (cd "$1" && shift && "$@")
 }
-tried 'a file' 0 "$cases/00001.out" '' "$command" "$cases/00001.in"
-tried 'a file beside it, from another folder' 0 "$cases/00001.out" '' in_folder "$cases" "$command" 00001.in
-tried 'standard input' 0 "$cases/00001.out" '' "$command" - <"$cases/00001.in"
+tried 'a file' 0 "$cases/00001.out" '*00001.in is in bytes' "$command" "$cases/00001.in"
+tried 'a file beside it, from another folder' 0 "$cases/00001.out" '*: 00001.in is in bytes' \
+    in_folder "$cases" "$command" 00001.in
+tried 'standard input' 0 "$cases/00001.out" '*standard input is in bytes' "$command" - <"$cases/00001.in"
 tried 'no file' 2 /dev/null '*usage: *' "$command"
 tried 'two files' 2 /dev/null '*usage: *' "$command" "$cases/00001.in" "$cases/00004.in"
+tried 'an unknown option' 2 /dev/null '*no option --explan;*' "$command" --explan "$cases/00001.in"
+tried 'a picture without its file' 2 /dev/null '*usage: *' "$command" "$cases/00001.in" --picture
 tried 'a file that is not there' 2 /dev/null '*cannot read *nowhere' "$command" "$work/nowhere"
 tried 'a folder' 2 /dev/null '*cannot read *' "$command" "$work"
-"$command" --help 2>"$work/errors" | grep -q '^usage: bin/rehearse FILE$' && [ ! -s "$work/errors" ]
+"$command" --help 2>"$work/errors" | grep -q '^usage: bin/rehearse ' && [ ! -s "$work/errors" ]
 ended $? 'bin/rehearse --help does not help'
 
-# A tree of its own, with a stand-in for rt, which builds a program that prints what it reads.
+# The notation, and what is printed of it
+
+evening=second-evening
+text=$(pwd)/examples/$evening.txt
+tried 'the notation' 0 "$cases/$evening.out" "*$evening.txt is in the notation" "$command" "$text"
+tried 'the notation from standard input' 0 "$cases/$evening.out" '*standard input is in the notation' \
+    "$command" - <"$text"
+tried 'an explanation' 0 "examples/$evening.explained.txt" '*notation' "$command" --explain "$text"
+tried 'an explanation of bytes, the option last' 0 "examples/$evening.explained.txt" '*in bytes' "$command" \
+    "$cases/$evening.in" --explain
+tried 'a picture' 0 "$cases/$evening.out" '*notation' "$command" --picture "$work/evening.svg" "$text"
+cmp "examples/$evening.svg" "$work/evening.svg"
+ended $? 'bin/rehearse --picture writes another picture'
+tried 'a picture and an explanation' 0 "examples/$evening.explained.txt" '*notation' "$command" --explain \
+    --picture "$work/evening.svg" "$text"
+tried 'a picture where none can be written' 2 /dev/null '*cannot write *' "$command" --picture "$work" "$text"
+sed 's/^end/emd/' "$text" >"$work/faulty.txt"
+tried 'a faulty text' 3 /dev/null '*faulty.txt, line 13: expected plan, change, end, *' "$command" "$work/faulty.txt"
+# Every case has the form that it has: those without a visible character, or with a byte that no text has, are bytes.
+for input in "$cases"/*.in; do
+    name=$(basename "$input" .in)
+    tried "case $name" 0 "$cases/$name.out" '*is in bytes' "$command" "$input"
+done
+
+# assemble and disassemble
+
+tried 'assemble' 0 "$cases/$evening.in" '' bin/assemble "$text"
+tried 'assemble, a faulty text' 3 /dev/null '*faulty.txt, line 13: expected plan, change, end, *' \
+    bin/assemble "$work/faulty.txt"
+tried 'assemble, no file' 2 /dev/null '*usage: *' bin/assemble
+bin/disassemble "$cases/$evening.in" >"$work/told.txt" 2>"$work/errors"
+[ ! -s "$work/errors" ]
+ended $? 'bin/disassemble says something on standard error'
+tried 'disassemble, and assemble what it prints' 0 "$cases/$evening.in" '' bin/assemble - <"$work/told.txt"
+tried 'disassemble, too many bytes' 3 /dev/null '*million: expected at most 16384 bytes' \
+    bin/disassemble "$work/million"
+for name in assemble disassemble; do
+    "bin/$name" --help 2>"$work/errors" | grep -q "^usage: bin/$name FILE\$" && [ ! -s "$work/errors" ]
+    ended $? "bin/$name --help does not help"
+done
+
+# A tree of its own, with a stand-in for rt, which builds programs that print what they read.
 tree="$work/a tree"
 mkdir -p "$tree/bin" "$tree/crates/rehearse" "$work/tools" "$work/kit" || exit 1
-cp "$command" "$tree/bin/rehearse"
+cp "$command" bin/programs.sh "$tree/bin"
 echo 'rehearse:' >"$tree/crates.txt"
-for tool in cat chmod cp dirname find mkdir sh; do
+for tool in cat chmod cp dirname find mkdir mv rm sh touch tr wc; do
     ln -s "$(command -v $tool)" "$work/tools/$tool"
 done
 printf '#!/bin/sh\nexec cat\n' >"$work/kit/program"
@@ -168,7 +189,8 @@ cat >"$work/kit/rt" <<'RT'
 #!/bin/sh
 cat >/dev/null
 echo "rt: $*"
-[ "$*" = 'check rehearse' ] && [ -f crates.txt ] && mkdir -p target/bin && cp "${0%/*}/program" target/bin/rehearse
+[ "$*" = 'check assemble rehearse' ] && [ -f crates.txt ] && mkdir -p target/bin &&
+    cp "${0%/*}/program" target/bin/assemble && cp "${0%/*}/program" target/bin/rehearse
 RT
 chmod +x "$work/kit/program" "$work/kit/rt"
 here=$tree/bin/rehearse
@@ -180,16 +202,15 @@ with_kit() {
     PATH="$work/kit:$work/tools" "$@"
 }
 tried 'no kit' 2 /dev/null '*no rt command*' without_kit "$here" "$work/input"
-tried 'a build' 0 "$work/input" '' with_kit "$here" "$work/input"
+tried 'a build' 0 "$work/input" '*notation' with_kit "$here" "$work/input"
 find "$tree/crates" "$tree/crates.txt" -exec touch -t 200001010000 {} +
-tried 'no kit, and nothing to build' 0 "$work/input" '' without_kit "$here" "$work/input"
+tried 'no kit, and nothing to build' 0 "$work/input" '*notation' without_kit "$here" "$work/input"
 touch -t 200001010000 "$tree/target/bin/rehearse"
 touch "$tree/crates/rehearse/main.rt"
 tried 'no kit, and a source that changed' 2 /dev/null '*no rt command*' without_kit "$here" "$work/input"
-tried 'a build before standard input is read' 0 "$work/input" '' with_kit "$here" - <"$work/input"
+tried 'a build before standard input is read' 0 "$work/input" '*notation' with_kit "$here" - <"$work/input"
 printf '#!/bin/sh\necho "a proof fails"\nexit 1\n' >"$work/kit/rt"
 touch -t 200001010000 "$tree/target/bin/rehearse"
 tried 'a build that fails' 1 /dev/null '*a proof fails*not be built' with_kit "$here" "$work/input"
 
-echo "$passed passed, $failed failed"
-[ "$failed" -eq 0 ]
+finish
