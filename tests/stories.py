@@ -10,33 +10,42 @@ import struct
 import subprocess
 import sys
 
+from paper import key, tag
 from rehearsals import RECORDS, begun
 from trials import read_first
 
+# Of a record.
 MEANINGS = {
     11: "it is no share",
     12: "there is no such controller or switch",
     13: "it is for another switch",
     14: "its tag does not match",
-    15: "the rule is not well formed",
+    15: "a length above 32, or bits of the address past its length",
     16: "too late, its number is not above the last applied",
     17: "its number is below that of the share held from this controller",
     18: "this controller has asked for another rule under this number",
     19: "the flow table is full",
-    20: "there can be 1 to 16 controllers",
     22: "its serial is not above the last one decided for that switch",
     24: "more than 64 changes would be undone",
     26: "nothing is ready to send",
-    28: "the script is longer than 8192 bytes",
     29: "the places are 0 to 63",
-    30: "bytes are missing",
-    31: "no record here has this kind",
+    30: "the last record is cut short",
+    31: "a script has no such record",
+}
+# Of an input before its script.
+FAULTS = {
+    12: "the switches are 0 to 15",
+    15: MEANINGS[15],
+    20: "there can be 1 to 16 controllers",
+    28: "the script is longer than 8192 bytes",
+    30: "the input ends before its playbook does",
+    31: "a playbook has plans and changes only, and ends with end",
     34: "a change stands before any plan",
     35: "two plans have the same switch and cause",
     36: "more than 64 plans, 512 changes, or 32 changes in a plan",
     37: "more than 64 different prefixes with lengths on one switch",
 }
-DONE = {"decide": "taken", "report": "taken", "keep": "kept"}
+DONE = {"report": "taken", "keep": "kept"}
 
 
 def route(rule):
@@ -69,20 +78,46 @@ def asked(call, given, share):
         return "controller %d makes its share for switch %d, kept in place %d" % given
     if call == "raw":
         if share is None:
-            return "bytes written out reach switch %d" % given[0]
-        return "a share in the name of controller %d, written out, reaches switch %d" % (share[0], given[0])
+            return "made-up bytes reach switch %d" % given[0]
+        return "a made-up share in the name of controller %d reaches switch %d" % (share[0], given[0])
     if share is None:
         return "the share kept in place %d is due" % given
     return "the share of controller %d kept in place %d reaches switch %d" % (share[0], given[0], share[3])
 
 
-def came(call, answer):
-    """What came of it."""
+def taken(first, last):
+    """What a decision that gave these numbers came to."""
+    if first > last:
+        return "taken, and no change is planned for it"
+    return "taken as change %d" % last if first == last else "taken as changes %d to %d" % (first, last)
+
+
+def unready(end, switch):
+    """Why a controller has nothing ready for a switch."""
+    held = [change for change in end.undone() if change[3] == switch]
+    if not held:
+        return "it has no undone change for that switch"
+    number, first, flow = held[0][:3]
+    other = next(change for change in end.undone() if change[1:3] == (first, flow) and change[0] < number)
+    return "change %d waits for change %d on switch %d" % (number, other[0], other[3])
+
+
+def came(call, answer, last):
+    """What came of it; `last` is the last number that the controller had given before, and has given after it."""
     if answer == 0:
-        return DONE.get(call, "held")
+        return taken(last[0] + 1, last[1]) if call == "decide" else DONE.get(call, "held")
     if answer == 26 and call == "deliver":
         return "refused, nothing is kept in that place"
     return {1: "applied", 2: "a repeat, nothing changed"}.get(answer) or "refused, " + MEANINGS[answer]
+
+
+def giver(share):
+    """The pair whose key gives a share's bytes their tag, in words."""
+    for controller in range(16):
+        for switch in range(16):
+            if tag(key(controller, switch), share[:14]) == share[14:]:
+                return ", tagged with the key of controller %d and switch %d" % (controller, switch)
+    return ""
 
 
 def bytes_at_hand(world, call, given):
@@ -107,15 +142,18 @@ def reached(call, given, kept):
     return given[0], given[1]
 
 
-def wished(world, call, answer, switch, share):
-    """What is told of a share beside the figure."""
+def wished(world, call, answer, switch, share, before, message):
+    """What is told of a share beside the figure; `before` was held from its sender, as (number, rule), or none."""
     number, rule = share[1], share[2]
     if answer == 1:
         return ", " + route(rule)
     if call == "keep" or answer > 2:
-        return "; it asks for change %d, %s" % (number, route(rule))
+        wish = "; the share asks for change %d, %s" % (number, route(rule))
+        return wish + (giver(message) if answer == 14 and call == "raw" else "")
     agreeing = sum(slot == (number, rule) for slot in world.switches[switch].slots)
-    return "; change %d, %s, has %d of %d controllers" % (number, route(rule), agreeing, (world.n - 1) // 3 + 1)
+    told = "; change %d, %s, has %d of %d controllers" % (number, route(rule), agreeing, (world.n - 1) // 3 + 1)
+    replaces = before is not None and before[0] != number
+    return told + (", in place of this one's change %d" % before[0] if replaces else "")
 
 
 def words(world, s):
@@ -129,23 +167,31 @@ def words(world, s):
     kept = world.places[given[0]] if call == "deliver" and given[0] < 64 else None
     controller, switch = reached(call, given, kept[0] if kept else 16)
     known = world.known(switch, controller) and (call != "keep" or given[2] < 64)
-    share = fields(bytes_at_hand(world, call, given)) if known else None
+    message = bytes_at_hand(world, call, given) if known else None
+    share = fields(message)
     if share and call == "deliver":
         share += (switch,)
+    end = world.controllers[controller] if known else None
+    last, before = end.last if end else 0, None
+    if share and share[0] < 16:
+        before = world.switches[switch].slots[share[0]]
+    why = unready(end, switch) if known and call in ("send", "keep") and message is None else None
     length, answer, figure = world.record(s)
-    told = "%s: %s" % (asked(call, given, share), came(call, answer))
+    told = "%s: %s" % (asked(call, given, share), came(call, answer, (last, end.last if end else 0)))
+    if why:
+        told += ": " + why
     if known and call in ("decide", "report"):
         told += "; controller %d has %s" % (controller, undone(figure))
     elif known:
         told += "; switch %d is at change %d" % (switch, figure)
     if share:
-        told += wished(world, call, answer, switch, share)
+        told += wished(world, call, answer, switch, share, before, message)
     return length, answer, figure, told
 
 
 def fault(s, answer):
     """A fault before the script; of a playbook, the first record that leaves no good beginning."""
-    told = "0 %d 0  before the script: refused, %s" % (answer, MEANINGS[answer])
+    told = "0 %d 0  before the script: refused, %s" % (answer, FAULTS[answer])
     if answer in (20, 28, 30):
         return told
     book, at, count = s[1:], 0, 0
@@ -172,7 +218,8 @@ def ends(world):
     if fresh:
         lines.append("at change 0, with no entry, are switches " + " ".join(fresh))
     for end in world.controllers:
-        lines.append("controller %d has %s%s" % (end.id, undone(end.count), ":" if end.count else ""))
+        idle = ", and took no decision" if not end.count and not any(end.serials) else ""
+        lines.append("controller %d has %s%s" % (end.id, undone(end.count), ":" if end.count else idle))
         lines += [
             "  change %d, %s, on switch %d, flow %d" % (number, route(rule), switch, flow)
             for number, _, flow, switch, rule in end.undone()
@@ -195,12 +242,15 @@ def explain(s):
     quorum = (world.n - 1) // 3 + 1
     lines = ["%d controller%s; a change needs %d of them" % (world.n, "s" if world.n > 1 else "", quorum), ""]
     lines += plans(world.controllers[0].book) + [""]
-    count = 0
+    count, refused = 0, []
     while script:
         count += 1
         length, answer, figure, told = words(world, script)
         lines.append("%d %d %d  %s" % (count, answer, figure, told))
+        refused += [str(count)] * (answer > 2)
         script = script[length:] if length else b""
+    if refused:
+        lines += ["", "refused are records " + " ".join(refused)]
     return lines + [""] + ends(world)
 
 

@@ -159,13 +159,33 @@ fn count_of(held: Held) -> u32 {
     }
 }
 
+// Whether a controller has taken no decision: no serial was decided.
+fn took_none(c: Controller) -> bool {
+    let serials = c.serials;
+    let mut i: usize = 0;
+    while i < 16 {
+        if serials[i] != 0 {
+            return false;
+        }
+        i += 1;
+    }
+    true
+}
+
+fn say_nothing_left(c: Controller) {
+    if took_none(c) {
+        say(b", and took no decision");
+    }
+    say(b"\n");
+}
+
 fn say_controller(c: Controller) {
     let held = c.undone;
     say_name(b"controller", c.id as u32);
     say(b" has ");
     say_count(count_of(held));
     if held.count == 0 {
-        say(b"\n");
+        say_nothing_left(c);
     } else {
         say(b":\n");
         say_undone(held);

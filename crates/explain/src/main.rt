@@ -39,6 +39,47 @@ fn say_steps(n: u8, steps: [Step; STEPS], count: usize) {
     }
 }
 
+fn is_refused(step: Step) -> bool {
+    answer::REPEAT < step.answer
+}
+
+fn any_refused(steps: [Step; STEPS], count: usize) -> bool {
+    let mut i: usize = 0;
+    while i < STEPS {
+        if i < count && is_refused(steps[i]) {
+            return true;
+        }
+        i += 1;
+    }
+    false
+}
+
+fn say_ordinal(ordinal: usize, step: Step) {
+    if is_refused(step) {
+        say(b" ");
+        say_number(ordinal as u64);
+    }
+}
+
+fn say_ordinals(steps: [Step; STEPS], count: usize) {
+    let mut i: usize = 0;
+    while i < STEPS {
+        if i < count {
+            say_ordinal(i + 1, steps[i]);
+        }
+        i += 1;
+    }
+}
+
+// Which records were refused, at a glance.
+fn say_refused(steps: [Step; STEPS], count: usize) {
+    if any_refused(steps, count) {
+        say(b"\nrefused are records");
+        say_ordinals(steps, count);
+        say(b"\n");
+    }
+}
+
 // The number of controllers, and how many of them a change needs.
 fn say_controllers(n: u8) {
     say_number(n as u64);
@@ -60,6 +101,7 @@ fn explain(told: Story) {
     plans::say_plans(world);
     say(b"\n");
     say_steps(n, steps, told.count);
+    say_refused(steps, told.count);
     say(b"\n");
     ends::say_switches(world);
     ends::say_controllers(world);

@@ -1,10 +1,12 @@
 // The story of a rehearsal, for people: what each record did, in words, and the ends after the last one. The answers and
 // figures are those of crate `rehearsal`, record by record; what is proved here is that every function is safe and ends.
 use flow::Rule;
+use notation::Giver;
 use rehearsal::World;
 
 mod figures;
 mod meanings;
+mod reasons;
 mod shares;
 mod telling;
 mod words;
@@ -13,6 +15,7 @@ pub use figures::say_change;
 pub use figures::say_count;
 pub use figures::say_name;
 pub use figures::say_rule;
+pub use meanings::say_meaning;
 pub use telling::tell;
 pub use words::say_fault;
 pub use words::say_line;
@@ -39,7 +42,10 @@ pub const DELIVER: u8 = 0x26;
 // What a record asked for and did. `begun` says that it passed the questions on what it names, so that the figure is an
 // end's; `shared` that a share was made or delivered, whose number and rule these are. The controller is the one that
 // the record names, or the sender that the share names; the switch is the one that was reached, or would have been.
-// `agreeing` counts the controllers whose shares at the switch have this number and rule after it.
+// `agreeing` counts the controllers whose shares at the switch have this number and rule after it, and `replaced` is the
+// number of the share that was held from the sender before, or 0. A decision that was taken gave `given` numbers, up to
+// `number`. Where nothing is ready for a switch, its change `waiting` waits for the change `awaited` on another; they are
+// 0 where the controller has none for the switch. `giver` is the pair whose key gives a made-up share its tag.
 pub struct Step {
     pub kind: u8,
     pub begun: bool,
@@ -54,6 +60,12 @@ pub struct Step {
     pub number: u32,
     pub rule: Rule,
     pub agreeing: u32,
+    pub replaced: u32,
+    pub given: u32,
+    pub waiting: u32,
+    pub awaited: u32,
+    pub awaited_at: u8,
+    pub giver: Giver,
 }
 
 // A rehearsal: the number of the question that refused its input before the script, or 0; its steps, of which the first

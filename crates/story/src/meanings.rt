@@ -9,7 +9,7 @@ fn say_call(answer: u8) {
         answer::UNKNOWN_ID => say(b"there is no such controller or switch"),
         answer::WRONG_RECEIVER => say(b"it is for another switch"),
         answer::WRONG_TAG => say(b"its tag does not match"),
-        answer::MALFORMED_RULE => say(b"the rule is not well formed"),
+        answer::MALFORMED_RULE => say(b"a length above 32, or bits of the address past its length"),
         answer::NOT_ABOVE_APPLIED => say(b"too late, its number is not above the last applied"),
         answer::BELOW_SLOT => say(
             b"its number is below that of the share held from this controller",
@@ -30,13 +30,13 @@ fn say_call(answer: u8) {
     }
 }
 
-// Of the input: its script, its records and its playbook.
-fn say_input(answer: u8) {
+// Of an input before its script.
+pub(crate) fn say_input(answer: u8) {
     match answer {
+        answer::UNKNOWN_ID => say(b"the switches are 0 to 15"),
         answer::SCRIPT_TOO_LONG => say(b"the script is longer than 8192 bytes"),
-        answer::UNKNOWN_PLACE => say(b"the places are 0 to 63"),
-        answer::CUT_SHORT => say(b"bytes are missing"),
-        answer::UNKNOWN_KIND => say(b"no record here has this kind"),
+        answer::CUT_SHORT => say(b"the input ends before its playbook does"),
+        answer::UNKNOWN_KIND => say(b"a playbook has plans and changes only, and ends with end"),
         answer::NO_PLAN => say(b"a change stands before any plan"),
         answer::TRIGGER_USED => say(b"two plans have the same switch and cause"),
         answer::OVER_LIMIT => say(b"more than 64 plans, 512 changes, or 32 changes in a plan"),
@@ -48,11 +48,16 @@ fn say_input(answer: u8) {
     }
 }
 
-// What the refusal of a record of a kind means: an empty place has nothing ready either.
-pub(crate) fn say_meaning(kind: u8, answer: u8) {
+// Of a record of a kind: an empty place has nothing ready either.
+pub fn say_meaning(kind: u8, answer: u8) {
     if kind == crate::DELIVER && answer == answer::NOTHING_TO_SEND {
         say(b"nothing is kept in that place");
-    } else {
-        say_input(answer);
+        return;
+    }
+    match answer {
+        answer::UNKNOWN_PLACE => say(b"the places are 0 to 63"),
+        answer::CUT_SHORT => say(b"the last record is cut short"),
+        answer::UNKNOWN_KIND => say(b"a script has no such record"),
+        _ => say_call(answer),
     }
 }

@@ -5,6 +5,7 @@ use flow::Rule;
 use lists::behind;
 use lists::byte_at;
 use message::layout;
+use notation::Giver;
 use rehearsal::Kind;
 use rehearsal::Place;
 use rehearsal::Record;
@@ -17,6 +18,7 @@ pub(crate) struct Share {
     pub(crate) sender: u8,
     pub(crate) number: u32,
     pub(crate) rule: Rule,
+    pub(crate) giver: Giver,
 }
 
 pub(crate) fn no_share() -> Share {
@@ -25,11 +27,12 @@ pub(crate) fn no_share() -> Share {
         sender: 0,
         number: 0,
         rule: flow::rule_of(0, 0, 0),
+        giver: Giver::Nobody,
     }
 }
 
-// The share in a message's bytes.
-fn share_in(b: &[u8]) -> Share {
+// The share in a message's bytes, and the pair whose key gives it its tag.
+fn share_in(b: &[u8], giver: Giver) -> Share {
     if byte_at(b, 0) != layout::SHARE {
         return no_share();
     }
@@ -41,13 +44,19 @@ fn share_in(b: &[u8]) -> Share {
         sender: byte_at(b, 1),
         number: number,
         rule: flow::rule_of(prefix, byte_at(b, 11), port),
+        giver: giver,
     }
 }
 
 fn share_made(c: Controller, controller: u8, switch: u8) -> Share {
     let made = rehearsal::make_share(c, controller, switch);
     let share = made.share;
-    share_in(&share)
+    share_in(&share, Giver::Nobody)
+}
+
+// A made-up share: only here it is looked for whose key gives its tag.
+fn share_made_up(message: &[u8]) -> Share {
+    share_in(message, notation::giver_of(message))
 }
 
 // The share of a record that passed its questions, with the controller that it names, the place, and the record's bytes.
@@ -57,11 +66,11 @@ pub(crate) fn share_of(c: Controller, place: Place, r: Record, bytes: &[u8]) -> 
         Kind::Decide => no_share(),
         Kind::Send => share_made(c, r.controller, r.switch),
         Kind::Report => no_share(),
-        Kind::Raw => share_in(behind(bytes, 2)),
+        Kind::Raw => share_made_up(behind(bytes, 2)),
         Kind::Keep => share_made(c, r.controller, r.switch),
         Kind::Deliver => {
             let share = place.share;
-            share_in(&share)
+            share_in(&share, Giver::Nobody)
         }
     }
 }
@@ -74,6 +83,13 @@ fn agrees(slot: Slot, number: u32, rule: Rule) -> u32
         return 0;
     }
     if flow::same_rule(held, rule) { 1 } else { 0 }
+}
+
+// The number in the slot of a controller.
+pub(crate) fn held_from(s: Switch, controller: u8) -> u32 {
+    let slots = s.slots;
+    let slot = slots[(controller % 16) as usize];
+    slot.number
 }
 
 // How many of a switch's slots hold a number and a rule.

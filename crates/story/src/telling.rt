@@ -2,16 +2,20 @@
 use crate::STEPS;
 use crate::Step;
 use crate::Story;
+use crate::reasons;
 use crate::shares;
 use crate::shares::Share;
+use controller::Controller;
 use lists::behind;
 use lists::front;
+use notation::Giver;
 use rehearsal::Kind;
 use rehearsal::Moved;
 use rehearsal::Next;
 use rehearsal::Place;
 use rehearsal::Record;
 use rehearsal::World;
+use switch::Switch;
 
 fn kind_of(kind: Kind) -> u8 {
     match kind {
@@ -40,27 +44,26 @@ fn broken(answer: u8) -> Step {
         number: 0,
         rule: flow::rule_of(0, 0, 0),
         agreeing: 0,
+        replaced: 0,
+        given: 0,
+        waiting: 0,
+        awaited: 0,
+        awaited_at: 0,
+        giver: Giver::Nobody,
     }
 }
 
 // A record that names what there is not.
 fn unbegun(r: Record, switch: u8, answer: u8) -> Step {
     let kind = r.kind;
-    Step {
-        kind: kind_of(kind),
-        begun: false,
-        controller: r.controller,
-        switch: switch,
-        place: r.place,
-        serial: r.serial,
-        cause: r.cause,
-        answer: answer,
-        figure: 0,
-        shared: false,
-        number: 0,
-        rule: flow::rule_of(0, 0, 0),
-        agreeing: 0,
-    }
+    let mut step = broken(answer);
+    step.kind = kind_of(kind);
+    step.controller = r.controller;
+    step.switch = switch;
+    step.place = r.place;
+    step.serial = r.serial;
+    step.cause = r.cause;
+    step
 }
 
 // The sender of a share that was not made by the controller that the record names.
@@ -73,24 +76,47 @@ fn sender_of(r: Record, share: Share) -> u8 {
     }
 }
 
-fn begun(r: Record, switch: u8, share: Share, m: Moved) -> Step {
+// How many numbers were given between two last ones.
+fn numbers_between(before: u32, after: u32) -> u32 {
+    if before < after { after - before } else { 0 }
+}
+
+// The number that is told: a share's own, or the last one given.
+fn number_of(share: Share, given: u32, last: u32) -> u32 {
+    if 0 < given { last } else { share.number }
+}
+
+// A record carried out on a controller and a switch, as they were before.
+fn begun(r: Record, c: Controller, s: Switch, share: Share, m: Moved) -> Step {
     let kind = r.kind;
     let rule = share.rule;
+    let giver = share.giver;
     let after = m.switch;
+    let grown = m.controller;
+    let held = c.undone;
+    let sender = sender_of(r, share);
+    let given = numbers_between(c.last, grown.last);
+    let reason = reasons::reason_of(held, s.id);
     Step {
         kind: kind_of(kind),
         begun: true,
-        controller: sender_of(r, share),
-        switch: switch,
+        controller: sender,
+        switch: s.id,
         place: r.place,
         serial: r.serial,
         cause: r.cause,
         answer: m.answer,
         figure: m.figure,
         shared: share.made,
-        number: share.number,
+        number: number_of(share, given, grown.last),
         rule: rule,
         agreeing: shares::agreeing(after, share.number, rule),
+        replaced: shares::held_from(s, sender),
+        given: given,
+        waiting: reason.waiting,
+        awaited: reason.awaited,
+        awaited_at: reason.at,
+        giver: giver,
     }
 }
 
@@ -135,14 +161,14 @@ fn follow(w: World, script: &[u8]) -> Story {
                     let bytes = front(rest, size);
                     let share = shares::share_of(c, place, r, bytes);
                     let m = rehearsal::perform(world.n, c, s, place, r, bytes);
+                    let step = begun(r, c, s, share, m);
+                    steps[count] = step;
                     let c = m.controller;
                     world.controllers[i] = c;
                     let s = m.switch;
                     world.switches[j] = s;
                     let q = m.place;
                     world.places[p] = q;
-                    let step = begun(r, switch, share, m);
-                    steps[count] = step;
                 }
                 if size < rest.len() {
                     rest = &rest[size..];

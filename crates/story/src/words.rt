@@ -4,8 +4,10 @@ use crate::figures::say_change;
 use crate::figures::say_count;
 use crate::figures::say_name;
 use crate::figures::say_rule;
+use crate::meanings::say_input;
 use crate::meanings::say_meaning;
 use flow::Rule;
+use notation::Giver;
 use prose::say;
 use prose::say_number;
 
@@ -43,11 +45,11 @@ fn say_report(step: Step) {
 
 fn say_raw(step: Step) {
     if step.shared {
-        say(b"a share in the name of ");
+        say(b"a made-up share in the name of ");
         say_controller(step.controller);
-        say(b", written out, reaches ");
+        say(b" reaches ");
     } else {
-        say(b"bytes written out reach ");
+        say(b"made-up bytes reach ");
     }
     say_switch(step.switch);
 }
@@ -88,24 +90,60 @@ fn say_asked(step: Step) {
     }
 }
 
-fn say_done(kind: u8) {
+// The first of so many numbers up to the last.
+fn first_of(given: u32, last: u32) -> u32 {
+    if given <= last { last - given } else { 0 }
+}
+
+// The numbers that a decision gave.
+fn say_taken(given: u32, last: u32) {
+    match given {
+        0 => say(b"taken, and no change is planned for it"),
+        1 => say_name(b"taken as change", last),
+        _ => {
+            say_name(b"taken as changes", first_of(given - 1, last));
+            say_name(b" to", last);
+        }
+    }
+}
+
+fn say_done(step: Step) {
+    let kind = step.kind;
     match kind {
-        crate::DECIDE => say(b"taken"),
+        crate::DECIDE => say_taken(step.given, step.number),
         crate::REPORT => say(b"taken"),
         crate::KEEP => say(b"kept"),
         _ => say(b"held"),
     }
 }
 
-fn say_answer(kind: u8, answer: u8) {
+// Why nothing is ready.
+fn say_reason(step: Step) {
+    if step.waiting == 0 {
+        say(b": it has no undone change for that switch");
+    } else {
+        say_name(b": change", step.waiting);
+        say_name(b" waits for change", step.awaited);
+        say_name(b" on switch", step.awaited_at as u32);
+    }
+}
+
+fn say_refused(step: Step) {
+    let kind = step.kind;
+    say(b"refused, ");
+    say_meaning(kind, step.answer);
+    if step.answer == answer::NOTHING_TO_SEND && kind != crate::DELIVER {
+        say_reason(step);
+    }
+}
+
+fn say_answer(step: Step) {
+    let answer = step.answer;
     match answer {
-        answer::DONE => say_done(kind),
+        answer::DONE => say_done(step),
         answer::APPLIED => say(b"applied"),
         answer::REPEAT => say(b"a repeat, nothing changed"),
-        _ => {
-            say(b"refused, ");
-            say_meaning(kind, answer);
-        }
+        _ => say_refused(step),
     }
 }
 
@@ -140,13 +178,33 @@ fn say_agreeing(n: u8, step: Step) {
     say(b" of ");
     say_number(switch::quorum(n) as u64);
     say(b" controllers");
+    if step.replaced != 0 && step.replaced != step.number {
+        say_name(b", in place of this one's change", step.replaced);
+    }
+}
+
+// Whose key gave a made-up share a tag that does not match.
+fn say_giver(giver: Giver) {
+    match giver {
+        Giver::Nobody => say(b""),
+        Giver::Pair { controller, switch } => {
+            say(b", tagged with the key of ");
+            say_controller(controller);
+            say(b" and ");
+            say_switch(switch);
+        }
+    }
 }
 
 // What a share asks for that was refused, or kept.
 fn say_wish(step: Step) {
     let rule = step.rule;
-    say(b"; it asks for ");
+    let giver = step.giver;
+    say(b"; the share asks for ");
     say_change(step.number, rule);
+    if step.answer == answer::WRONG_TAG {
+        say_giver(giver);
+    }
 }
 
 fn say_applied(rule: Rule) {
@@ -174,7 +232,7 @@ fn say_share(n: u8, step: Step) {
 pub fn say_words(n: u8, step: Step) {
     say_asked(step);
     say(b": ");
-    say_answer(step.kind, step.answer);
+    say_answer(step);
     if step.begun {
         say_figure(step);
         if step.shared {
@@ -195,5 +253,5 @@ pub fn say_line(ordinal: usize, answer: u8, figure: u32) {
 // A fault before the script, in words.
 pub fn say_fault(answer: u8) {
     say(b"before the script: refused, ");
-    say_meaning(crate::NO_RECORD, answer);
+    say_input(answer);
 }
