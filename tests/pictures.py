@@ -1,5 +1,6 @@
-"""Pictures of rehearsals, read as XML and compared with the explanation of the same input: every record has its column in
-order, with its line and words, and the marks that these call for, on the rows of the ends that they name.
+"""Pictures of rehearsals, read as XML and compared with the explanation of the same input: every record has its column
+in order, with its line and words, and the marks that these call for, on the rows of the ends that they name. Below
+stand the refusals with their meanings and the changes that were made, and the page has room for them.
 
     python3 tests/pictures.py PICTURE EXPLAIN FILE..    the two programs, and inputs
 
@@ -16,13 +17,16 @@ ASKED = (
     ("decide", r"controller (?P<c>\d+) decides on event \d+ of switch (?P<s>\d+), "),
     ("send", r"controller (?P<c>\d+) sends its share to switch (?P<s>\d+)"),
     ("report", r"switch (?P<s>\d+) reports to controller (?P<c>\d+)"),
-    ("raw", r"a share in the name of controller (?P<c>\d+), written out, reaches switch (?P<s>\d+)"),
-    ("raw", r"bytes written out reach switch (?P<s>\d+)"),
+    ("raw", r"a made-up share in the name of controller (?P<c>\d+) reaches switch (?P<s>\d+)"),
+    ("raw", r"made-up bytes reach switch (?P<s>\d+)"),
     ("keep", r"controller (?P<c>\d+) makes its share for switch (?P<s>\d+), kept in place (?P<p>\d+)"),
     ("late", r"the share of controller (?P<c>\d+) kept in place \d+ reaches switch (?P<s>\d+)"),
     ("none", r"the share kept in place \d+ is due|here the script stops"),
 )
 OUTCOME = {0: "held", 1: "applied", 2: "repeat"}
+# An empty place is listed below the other refusals of its number, and so many changes have a line.
+EMPTY = "nothing is kept in that place"
+LISTED = 24
 
 
 def run(program, name):
@@ -40,22 +44,34 @@ def named(words):
     raise ValueError(words)
 
 
-def marks(kind, controller, switch, place, answer, begun):
+def marks(kind, controller, switch, answer, begun):
     """The arrow of a record, as its class and two rows, and its shapes with their rows; none is the line of no row."""
     cross = [("cross", None)] if answer > 2 else []
     if not begun:
         row = {"none": None, "late": None, "report": switch, "raw": switch}.get(kind, controller)
-        return None, [("cross", row)], str(answer)
+        return None, [("cross", row)]
     if kind in ("decide", "keep"):
         shape = "square" if kind == "decide" else "diamond"
-        number = str(answer) if cross else place
-        return None, [(shape, controller)] + [("cross", controller)] * len(cross), number
+        return None, [(shape, controller)] + [("cross", controller)] * len(cross)
     if kind == "send" and answer == 26:
-        return None, [("cross", controller)], "26"
+        return None, [("cross", controller)]
     ends = (switch, controller) if kind == "report" else (controller, switch)
     shapes = [(OUTCOME.get(answer, "cross"), ends[1])] if kind != "report" or answer else []
-    number = {0: None, 1: "figure", 2: None}.get(answer, str(answer))
-    return (kind,) + ends, shapes, number
+    return (kind,) + ends, shapes
+
+
+def texts(kind, switch, place, answer, figure, words):
+    """What is written at the marks of a record: its refusal's number, a change's, the controllers that agree, a kept
+    share's place, and the switch that no arrow leads to."""
+    begun = ";" in words
+    aim = [switch.replace("switch", "to")] if begun and (kind == "keep" or (kind == "send" and answer == "26")) else []
+    if int(answer) > 2:
+        return [answer] + aim
+    if kind == "keep":
+        return [place] + aim
+    if answer == "0" and kind in ("send", "late", "raw"):
+        return ["%s/%s" % re.search(r", has (\d+) of (\d+) controllers", words).groups()]
+    return [figure] if answer == "1" else []
 
 
 def drawn(step, rows):
@@ -79,18 +95,45 @@ def differs(told, step, rows):
     ordinal, answer, figure = line.split()
     numbers = [text.text for text in step.findall(SVG + "text")]
     kind, controller, switch, place = named(words)
+    written = texts(kind, switch, place, answer, figure, words)
     controller = controller if controller in rows.values() else None
     switch = switch if switch in rows.values() else None
-    begun = ";" in words
-    arrow, shapes, number = marks(kind, controller, switch, place, int(answer), begun)
-    number = figure if number == "figure" else number
+    arrow, shapes = marks(kind, controller, switch, int(answer), ";" in words)
     band = any(path.get("class") == "band" for path in step.findall(SVG + "path"))
     return (
         step.find(SVG + "title").text != told
-        or numbers != [ordinal] + [number] * (number is not None) + [answer, figure]
+        or numbers != [ordinal] + written + [answer, figure]
         or drawn(step, rows) != (arrow, shapes)
         or band != (answer == "1")
     )
+
+
+def lists(told):
+    """The lists below the legend, each with its heading, that the lines of an explanation call for."""
+    refused, made = set(), []
+    for line in told:
+        ordinal, answer = line.split()[:2]
+        if int(answer) > 2:
+            refused.add((answer, re.search(r": refused, ([^:;]*)", line).group(1)))
+        if answer == "1":
+            made.append("record %s: %s %s" % ((ordinal,) + re.search(r"; (switch \d+) is (at .*)", line).groups()))
+    refused = [" ".join(part) for part in sorted(refused, key=lambda part: (int(part[0]), part[1] == EMPTY))]
+    more = ["and %d more" % (len(made) - LISTED)] if len(made) > LISTED else []
+    return [["refused"] + refused] * bool(refused) + [["changes made"] + made[:LISTED] + more] * bool(made)
+
+
+def listed(page):
+    """The lists of a picture, and whether all their lines stand below each other within the page."""
+    found, fits = [], page.get("viewBox").split()[2:] == [page.get(side)[:-2] for side in ("width", "height")]
+    for group in page.findall(SVG + "g"):
+        for text in group.findall(SVG + "text[@class='list']"):
+            lines = list(text)
+            top = int(re.fullmatch(r"translate\(0 (\d+)\)", group.get("transform")).group(1)) + int(text.get("y"))
+            steps = [int(line.get("dy")) for line in lines[1:]]
+            fits = fits and top + sum(steps) + 4 < int(page.get("height")[:-2]) and all(step > 14 for step in steps)
+            fits = fits and all(line.get("x") == text.get("x") for line in lines[1:])
+            found.append(["".join(line.itertext()) for line in lines])
+    return found, fits
 
 
 def compare(picture, explain, name):
@@ -108,6 +151,8 @@ def compare(picture, explain, name):
     places = [int(re.fullmatch(r"translate\((\d+)\)", step.get("transform")).group(1)) for step in steps]
     if places != sorted(set(places)):
         return "columns out of order"
+    if listed(page) != (lists(told), True):
+        return "other lists, or no room for them"
     return "another column for: " + wrong[0] if wrong else None
 
 

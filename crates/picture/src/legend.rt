@@ -36,31 +36,31 @@ fn say_kinds() {
     say_words(36, b"decides");
     say_arrow(b"send", 112, b"<use href='#down' y='21'/>");
     say_words(123, b"sends its share");
-    say_arrow(b"report", 250, b"<use href='#into' y='-14'/>");
-    say_words(261, b"reports");
+    say_arrow(b"report", 235, b"<use href='#into' y='-14'/>");
+    say_words(246, b"reports");
     say(b"<g class='kept'>");
-    say_shape(b"diamond", 338);
-    say(b"</g><text x='338' y='27.5' class='in'>3</text>");
-    say_words(355, b"makes a share, kept in place 3");
-    say_arrow(b"late", 578, b"<use href='#down' y='21'/>");
-    say_words(589, b"a kept share arrives");
-    say_arrow(b"raw", 746, b"<use href='#down' y='21'/>");
-    say_words(
-        757,
-        b"a message written out arrives, in this controller's name",
+    say_shape(b"diamond", 316);
+    say(
+        b"</g><text x='316' y='27.5' class='in'>3</text><text x='316' y='45' class='aim'>to 9</text>",
     );
+    say_words(333, b"makes a share for switch 9, kept in place 3");
+    say_arrow(b"late", 612, b"<use href='#down' y='21'/>");
+    say_words(623, b"a kept share arrives");
+    say_arrow(b"raw", 766, b"<use href='#down' y='21'/>");
+    say_words(777, b"a made-up message arrives, in this controller's name");
 }
 
 // What came of it.
 fn say_outcomes() {
     say_shape(b"held", 22);
-    say_words(36, b"held, and waits for other controllers");
+    say(b"<text x='22' y='42' class='plain'>1/2</text>");
+    say_words(36, b"held, has 1 of the 2 controllers it needs");
     say(b"<path class='band' d='M300 24h30'/>");
     say_shape(b"applied", 300);
     say(b"<text x='300' y='42' class='good'>2</text>");
     say_words(338, b"change 2 applied; the switch is at it from here on");
     say_shape(b"repeat", 686);
-    say_words(697, b"a repeat, nothing changed");
+    say_words(700, b"a repeat, nothing changed");
     say_shape(b"cross", 890);
     say(b"<text x='890' y='42' class='bad'>16</text>");
     say_words(904, b"refused by question 16");

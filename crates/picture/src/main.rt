@@ -5,12 +5,15 @@ ghost use lib.ListN.{length};
 use libc::STDIN_FILENO;
 use story::Story;
 
+mod changes;
 mod columns;
 mod legend;
+mod listed;
 mod marks;
 mod names;
 mod page;
 mod reached;
+mod refusals;
 mod rows;
 mod steps;
 
@@ -30,7 +33,9 @@ fn draw(story: Story) {
     let n = world.n;
     let steps = story.steps;
     let rows = rows::rows_of(n, steps, count);
-    page::say_head(rows.bottom, count);
+    let refusals = refusals::refusals_in(steps, count);
+    let changes = changes::changes_in(steps, count);
+    page::say_head(rows.bottom, listed::height_of(refusals, changes), count);
     page::say_heading(n, count);
     names::say_lines(rows, right);
     page::say_group();
@@ -38,6 +43,7 @@ fn draw(story: Story) {
     page::say_group_end();
     names::say_names(rows, count);
     legend::say_legend(rows);
+    listed::say_lists(rows.bottom, refusals, changes, steps);
     page::say_end();
 }
 

@@ -1,6 +1,7 @@
 // The marks of a step, in the middle of its column. The shapes are the page's; each is placed at a depth.
 use prose::say;
 use prose::say_number;
+use story::Step;
 
 // A shape of the page, at a depth.
 pub(crate) fn say_shape(name: &[u8], y: u64) {
@@ -18,8 +19,8 @@ fn say_narrow(number: u64) {
     }
 }
 
-// A number that stands dy below a depth.
-pub(crate) fn say_figure(class: &[u8], number: u64, y: u64, dy: &[u8]) {
+// The head of a text that stands dy below a depth.
+fn say_text(class: &[u8], y: u64, dy: &[u8]) {
     say(b"<text class='");
     say(class);
     say(b"' y='");
@@ -27,9 +28,32 @@ pub(crate) fn say_figure(class: &[u8], number: u64, y: u64, dy: &[u8]) {
     say(b"' dy='");
     say(dy);
     say(b"'");
+}
+
+// A number that stands dy below a depth.
+pub(crate) fn say_figure(class: &[u8], number: u64, y: u64, dy: &[u8]) {
+    say_text(class, y, dy);
     say_narrow(number);
     say(b">");
     say_number(number);
+    say(b"</text>");
+}
+
+// The switch that a share is for, where no arrow leads to it.
+pub(crate) fn say_aim(switch: u8, y: u64, dy: &[u8]) {
+    say_text(b"aim", y, dy);
+    say(b">to ");
+    say_number(switch as u64);
+    say(b"</text>");
+}
+
+// How many controllers agree, and how many are needed.
+fn say_agreeing(agreeing: u32, quorum: u32, y: u64, dy: &[u8]) {
+    say_text(b"plain", y, dy);
+    say(b">");
+    say_number(agreeing as u64);
+    say(b"/");
+    say_number(quorum as u64);
     say(b"</text>");
 }
 
@@ -68,14 +92,18 @@ pub(crate) fn say_arrow(class: &[u8], from: u64, to: u64, head: &[u8]) {
     say(b"</g>");
 }
 
-// What came of a message, at the end of its arrow; a number stands on the side that the arrow leaves free.
-pub(crate) fn say_outcome(answer: u8, figure: u32, y: u64, free: &[u8]) {
+// What came of a message among n controllers, at the end of its arrow; numbers stand on the side that this leaves free.
+pub(crate) fn say_outcome(n: u8, step: Step, y: u64, free: &[u8]) {
+    let answer = step.answer;
     say_shape(b"clear", y);
     match answer {
-        answer::DONE => say_shape(b"held", y),
+        answer::DONE => {
+            say_shape(b"held", y);
+            say_agreeing(step.agreeing, switch::quorum(n), y, free);
+        }
         answer::APPLIED => {
             say_shape(b"applied", y);
-            say_figure(b"good", figure as u64, y, free);
+            say_figure(b"good", step.figure as u64, y, free);
         }
         answer::REPEAT => say_shape(b"repeat", y),
         _ => say_cross(answer, y, free),

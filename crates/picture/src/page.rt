@@ -6,7 +6,7 @@ use prose::say;
 use prose::say_number;
 
 // The legend below the rows.
-const LEGEND: u64 = 156;
+pub(crate) const LEGEND: u64 = 156;
 
 fn say_size(width: u64, height: u64) {
     say(b"<svg xmlns='http://www.w3.org/2000/svg' role='img' width='");
@@ -29,12 +29,14 @@ fn say_style() {
     say(b"<style>\n");
     say(b"text{font:11px sans-serif;fill:#222;text-anchor:middle}\n");
     say(b".heading{font-size:15px;font-weight:bold;text-anchor:start}\n");
-    say(b".words{font-size:12px;text-anchor:start}\n");
+    say(b".words,.list{font-size:12px;text-anchor:start}\n");
+    say(b".title{font-weight:bold}\n");
     say(
         b".name,.label{font-size:12px;text-anchor:end;paint-order:stroke;stroke:#fff;stroke-width:8px}\n",
     );
     say(b".label{fill:#666}\n");
-    say(b".in{font-size:10px}\n");
+    say(b".in,.aim{font-size:10px}\n");
+    say(b".aim{fill:#666}\n");
     say(b".good{fill:#176b2c;font-weight:bold}\n");
     say(b".bad{fill:#b3151b;font-weight:bold}\n");
     say(b".row{stroke:#ccc}\n");
@@ -73,17 +75,20 @@ fn say_shapes(bottom: u64) {
     say(b"<circle id='clear' r='7.5' fill='#fff'/>\n");
     say(b"<circle id='held' r='5.5' fill='#fff' stroke='#222' stroke-width='2'/>\n");
     say(b"<circle id='applied' r='7' fill='#176b2c'/>\n");
-    say(b"<circle id='repeat' r='3' fill='#777'/>\n");
+    say(
+        b"<g id='repeat' fill='#777'><circle r='6.5'/><circle r='4.9' fill='#fff'/><circle r='2.4'/></g>\n",
+    );
     say(b"<path id='cross' d='M-5-5l10 10M-5 5l10-10' stroke='#b3151b' stroke-width='2.6'/>\n");
     say(b"</defs>\n");
 }
 
-// The page before the picture.
-pub(crate) fn say_head(bottom: u64, count: usize)
+// The page before the picture, with so much height for the lists below the legend.
+pub(crate) fn say_head(bottom: u64, lists: u64, count: usize)
     requires { ⌜ count ≤ 4096 ⌝ }
     requires { ⌜ bottom ≤ 1500 ⌝ }
+    requires { ⌜ lists ≤ 3000 ⌝ }
 {
-    say_size(columns::width_of(count), bottom + LEGEND);
+    say_size(columns::width_of(count), bottom + LEGEND + lists);
     say_background();
     say_style();
     say_shapes(bottom);

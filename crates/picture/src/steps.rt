@@ -1,6 +1,7 @@
 // A step's column: the record's ordinal above the rows, the marks, and the answer and the figure below.
 ghost use Prim.Native.Nat.{_<_};
 use crate::columns;
+use crate::marks::say_aim;
 use crate::marks::say_arrow;
 use crate::marks::say_band;
 use crate::marks::say_failed;
@@ -31,8 +32,10 @@ fn say_keep(rows: Rows, step: Step) {
         say_shape(b"diamond", y);
         say(b"</g>");
         say_figure(b"in", step.place as u64, y, b"3.5");
+        say_aim(step.switch, y, b"21");
     } else {
         say_failed(b"diamond", step.answer, y);
+        say_aim(step.switch, y, b"31");
     }
 }
 
@@ -43,7 +46,7 @@ fn say_share(rows: Rows, step: Step, class: &[u8], from: u64, x: u64, right: u64
         say_band(to, columns::length_of(x, right));
     }
     say_arrow(class, from, to, b"down");
-    say_outcome(step.answer, step.figure, to, b"18");
+    say_outcome(rows.n, step, to, b"18");
 }
 
 // A controller has nothing ready: no message is made.
@@ -53,6 +56,7 @@ fn say_send(rows: Rows, step: Step, x: u64, right: u64) {
         say_share(rows, step, b"send", from, x, right);
     } else {
         say_refused(step.answer, from);
+        say_aim(step.switch, from, b"28");
     }
 }
 
@@ -64,7 +68,7 @@ fn say_report(rows: Rows, step: Step) {
         say_arrow(b"report", from, to, b"into");
     } else {
         say_arrow(b"report", from, to, b"up");
-        say_outcome(step.answer, step.figure, to, b"-11");
+        say_outcome(rows.n, step, to, b"-11");
     }
 }
 

@@ -1,0 +1,18 @@
+-- Each listed column is looked at once. Assumes nothing.
+use Prim.Native.Nat.{_≤_, _-_}
+use borrow.Author.Needs.{needs}
+use Rattle.picture.proofs.changes.say_changes.Statement.{statement}
+use Rattle.picture.proofs.changes.say_changes.Tie as tie
+
+abbrev Inv-loop : tie.InvT-loop
+Inv-loop x steps columns count i₀ i = i ≤ 24
+
+abbrev μ-loop : tie.MeasureT-loop
+μ-loop x steps columns count i₀ i = 24 - i
+
+pub say-changes-spec : {M : Type 1} → statement M
+say-changes-spec =
+    tie.close
+    (tie.spec Inv-loop μ-loop (λ c. search needs) (λ c. search needs) (λ c. search needs) (λ c. search needs)
+    (λ c. search needs) (λ c κs. search needs) (λ c. search needs) (λ c. search needs) (λ c. search needs)
+    (λ c κs. search needs) (λ c. search needs))

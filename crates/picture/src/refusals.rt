@@ -1,0 +1,100 @@
+// Which refusals occur in a rehearsal. An empty place and a controller with nothing ready are refused by one question;
+// each has its own meaning, and its own place here.
+ghost use Prim.Native.Nat.{_≤_};
+use crate::listed::say_line;
+use crate::listed::say_line_end;
+use prose::say;
+use prose::say_number;
+use story::STEPS;
+use story::Step;
+
+// No question has a number from 64 on; each has two places.
+const PLACES: usize = 128;
+
+pub(crate) struct Refusals {
+    met: [bool; PLACES],
+}
+
+fn place_of(step: Step) -> usize
+    ensures { λ r. ⌜ r ≤ 127 ⌝ }
+{
+    let first = (step.answer % 64) as usize * 2;
+    if step.kind == story::DELIVER && step.answer == answer::NOTHING_TO_SEND {
+        first + 1
+    } else {
+        first
+    }
+}
+
+fn with_step(refusals: Refusals, step: Step) -> Refusals {
+    let mut met = refusals.met;
+    if answer::REPEAT < step.answer {
+        met[place_of(step)] = true;
+    }
+    Refusals { met: met }
+}
+
+pub(crate) fn refusals_in(steps: [Step; STEPS], count: usize) -> Refusals {
+    let mut refusals = Refusals {
+        met: [false; PLACES],
+    };
+    let mut i: usize = 0;
+    while i < STEPS {
+        if i < count {
+            let next = with_step(refusals, steps[i]);
+            refusals = next;
+        }
+        i += 1;
+    }
+    refusals
+}
+
+fn one_if(met: bool) -> u64
+    ensures { λ r. ⌜ r ≤ 1 ⌝ }
+{
+    if met { 1 } else { 0 }
+}
+
+// How many there are.
+pub(crate) fn count_of(refusals: Refusals) -> u64
+    ensures { λ r. ⌜ r ≤ 128 ⌝ }
+{
+    let met = refusals.met;
+    let mut count: u64 = 0;
+    let mut i: usize = 0;
+    while i < PLACES {
+        count += one_if(met[i]);
+        i += 1;
+    }
+    count
+}
+
+fn kind_at(place: usize) -> u8 {
+    if place % 2 == 1 {
+        story::DELIVER
+    } else {
+        story::SEND
+    }
+}
+
+fn say_refusal(place: usize, x: u64) {
+    let answer = (place / 2 % 64) as u8;
+    say_line(x);
+    say(b"<tspan class='bad'>");
+    say_number(answer as u64);
+    say(b"</tspan> ");
+    story::say_meaning(kind_at(place), answer);
+    say_line_end();
+}
+
+// A line for each, by rising number.
+pub(crate) fn say_refusals(refusals: Refusals, x: u64) {
+    let met = refusals.met;
+    let mut i: usize = 0;
+    while i < PLACES {
+        if met[i] {
+            say_refusal(i, x);
+        }
+        i += 1;
+    }
+}
