@@ -135,6 +135,8 @@ def assemble(text):
     if len(text) > LONGEST_TEXT:
         return "line %d: expected at most 1048576 bytes of text" % (1 + text.count(b"\n", 0, LONGEST_TEXT))
     s, run = b"", 0
+    if text.startswith(b"\xef\xbb\xbf"):
+        text = text[3:]
     for number, line in enumerate(map(Line, text.decode("latin-1").split("\n")), 1):
         if line.words:
             try:
@@ -212,16 +214,19 @@ FAULTY = {
         "12" + 9 * " 00", "21" + 7 * " 00", "22 00 00", "23 00 00 00", "24" + 31 * " 02", "26 FF", "26" + 31 * " FF")],
     "key controller 0 switch 2, which gives this tag": (RAW + "tag " + TAG, "\t" + RAW + "\r\t tag  " + TAG + "#"),
 }
+MARK = "\xef\xbb\xbf"
 VOCABULARY = sorted({word for lines in FAULTY.values() for line in lines for word in line.split()})
 TEXTS = {
     "": ("", "\n \t\r\n# nothing", (1023 * " " + "\n") * 1024), "04 24 00 00": (FOUR + "bytes 24 00 00",),
     "04": ("controllers 4", FOUR.ljust(1048576), (FOUR + "#").ljust(1048576, "\xff"), "controllers 4\r\n"),
-    "00 13 13": ("controllers 0\nend#\r\n \r\tend # end",), "FF": ("\r\n\tcontrollers\t255#5\r\n#\xff\0\n",),
+    "00 13 13": ("controllers 0\nend#\r\n \r\tend # end", MARK + "controllers 0\nend\nend"),
+    "FF": ("\r\n\tcontrollers\t255#5\r\n#\xff\0\n",),
     "04 FF" + 31 * "13": (FOUR + JUNK,), "04 FF" + 32 * "13" + "FF": (FOUR + JUNK + "\n\n bytes 13 FF#",),
     "04 24 02 02 00 02 00000001 0A000000 08 0003" + TAG: (FOUR + RAW + "key controller 0 switch 2",),
     "04 24 02 02 00 02 00000001 0A000000 08 0003" + 16 * "00": (FOUR + RAW + "tag" + 16 * " 00",),
     "04 21 0102FFFFFFFF03": (FOUR + "decide controller 1 switch 2 serial 4294967295 cause 3",),
-    "line 1: expected controllers": ("end", "Controllers 4", "4"), "line 3: expected controllers": ("\n#\nbytes 04",),
+    "line 1: expected controllers": ("end", "Controllers 4", "4", MARK[:2] + "controllers 4", 2 * MARK + FOUR),
+    "line 3: expected controllers": ("\n#\nbytes 04",),
     "line 1: expected the end of the line": ("controllers 4\rend", "controllers 4 4\nend end"),
     "line 1: expected a number from 0 to 255": ("controllers\n4", "controllers 256"),
     "line 3: expected no record after bytes": (FOUR + "bytes FF\nbytes 13 foo", FOUR + JUNK + "\nend 1"),

@@ -16,6 +16,7 @@ use faults::is_none;
 use faults::tell;
 use libc::STDIN_FILENO;
 use libc::STDOUT_FILENO;
+use lists::behind;
 use lists::byte_at;
 use lists::front;
 use notation::INPUT;
@@ -45,6 +46,11 @@ fn ends_at(b: u8) -> usize
     ensures { λ r. ⌜ r ≤ 1 ⌝ }
 {
     if b == b'\n' { 1 } else { 0 }
+}
+
+// Whether a text begins with a byte-order mark, as some editors write it.
+fn is_marked(text: &[u8]) -> bool {
+    byte_at(text, 0) == 0xEF && byte_at(text, 1) == 0xBB && byte_at(text, 2) == 0xBF
 }
 
 // How many lines end in the first n bytes.
@@ -121,6 +127,8 @@ fn main() {
     let text = &space[..n];
     if n == SPACE {
         tell(1 + ends_in(text, TEXT), Fault::Text);
+    } else if is_marked(text) {
+        assemble(behind(text, 3));
     } else {
         assemble(text);
     }
