@@ -54,7 +54,7 @@ block 6 >"$work/excerpt"
 ended $? 'README tells the second evening otherwise than it is explained'
 block controllers >"$work/tonight.txt"
 "$programs/assemble" <"$work/tonight.txt" | "$programs/rehearse" >"$work/lines"
-printf '1 0 2\n2 0 2\n3 0 0\n4 1 1\n5 26 0\n6 0 1\n7 0 0\n' | cmp - "$work/lines"
+printf '1 0 2\n2 0 2\n3 0 0\n4 0 0\n5 1 1\n6 26 0\n7 0 1\n8 0 0\n9 0 0\n' | cmp - "$work/lines"
 ended $? "README's rehearsal has other answers than it says"
 sed '4s/switch/swich/' "$work/tonight.txt" >"$work/faulty.txt"
 "$programs/assemble" <"$work/faulty.txt" 2>&1 | sed 's/^/bin\/rehearse: tonight.txt, /' >"$work/fault"

@@ -153,6 +153,19 @@ tried 'a picture and an explanation' 0 "examples/$evening.explained.txt" '*notat
 tried 'a picture where none can be written' 2 /dev/null '*cannot write *' "$command" --picture "$work" "$text"
 sed 's/^end/emd/' "$text" >"$work/faulty.txt"
 tried 'a faulty text' 3 /dev/null '*faulty.txt, line 13: expected plan, change, end, *' "$command" "$work/faulty.txt"
+# A playbook that is refused is told with the line of its record, where it is a record's fault.
+echo '0 15 0' >"$work/expected"
+sed 's/10.1.0.0\(.16 port 3\)/10.1.0.1\1/' "$text" >"$work/refused.txt"
+tried 'a rule that is not well formed' 0 "$work/expected" '*notation*refused.txt, line 10: refused, a length above *' \
+    "$command" "$work/refused.txt"
+echo '0 31 0' >"$work/expected"
+sed '/^end/d' "$text" >"$work/refused.txt"
+tried 'a playbook without its end' 0 "$work/expected" '*notation*refused.txt, line 15: refused, a playbook has *' \
+    "$command" "$work/refused.txt"
+echo '0 30 0' >"$work/expected"
+echo 'controllers 4' >"$work/refused.txt"
+tried 'a playbook that is not there' 0 "$work/expected" '*notation*refused.txt: refused, the input ends before *' \
+    "$command" "$work/refused.txt"
 # Every case has the form that it has: those without a visible character, or with a byte that no text has, are bytes.
 for input in "$cases"/*.in; do
     name=$(basename "$input" .in)
@@ -171,6 +184,8 @@ ended $? 'bin/disassemble says something on standard error'
 tried 'disassemble, and assemble what it prints' 0 "$cases/$evening.in" '' bin/assemble - <"$work/told.txt"
 tried 'disassemble, too many bytes' 3 /dev/null '*million: expected at most 16384 bytes' \
     bin/disassemble "$work/million"
+bin/disassemble "$text" 2>&1 >"$work/told.txt" | grep -q 'txt looks like text, and is taken as bytes$'
+ended $? 'bin/disassemble says nothing of a text'
 for name in assemble disassemble; do
     "bin/$name" --help 2>"$work/errors" | grep -q "^usage: bin/$name FILE\$" && [ ! -s "$work/errors" ]
     ended $? "bin/$name --help does not help"
