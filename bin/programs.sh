@@ -53,8 +53,8 @@ taken() {
     fi
 }
 
-# is_text: whether `input` is text. Every input that has a whole playbook has a byte 13 (hexadecimal), which no text has;
-# what has no visible character is no text either.
+# is_text: whether `input` is text. Every input that has a whole playbook has a byte 13 (hexadecimal), which no text
+# has; what has no visible character is no text either.
 is_text() {
     [ "$(LC_ALL=C tr -d '\11\12\15\40-\176\200-\377' <"$work/input" | wc -c)" -eq 0 ] &&
         [ "$(LC_ALL=C tr -cd '\41-\176' <"$work/input" | wc -c)" -gt 0 ]

@@ -20,5 +20,6 @@ for input in tests/cases/*.in; do
     ended $? "$name is drawn with other words than it is explained in"
 done
 by_python 'tests/stories.py works out other explanations' tests/stories.py compare "$programs/explain" tests/cases/*.in
-by_python 'tests/pictures.py reads other pictures' tests/pictures.py "$programs/picture" "$programs/explain" tests/cases/*.in
+by_python 'tests/pictures.py expects other pictures' tests/pictures.py "$programs/picture" "$programs/explain" \
+    tests/cases/*.in
 finish

@@ -18,7 +18,7 @@ ASKED = (
     ("send", r"controller (?P<c>\d+) sends its share to switch (?P<s>\d+)"),
     ("report", r"switch (?P<s>\d+) reports to controller (?P<c>\d+)"),
     ("raw", r"a made-up share in the name of controller (?P<c>\d+) reaches switch (?P<s>\d+)"),
-    ("raw", r"made-up bytes reach switch (?P<s>\d+)"),
+    ("raw", r"a made-up message reaches switch (?P<s>\d+)"),
     ("keep", r"controller (?P<c>\d+) makes its share for switch (?P<s>\d+), kept in place (?P<p>\d+)"),
     ("late", r"the share of controller (?P<c>\d+) kept in place \d+ reaches switch (?P<s>\d+)"),
     ("none", r"the share kept in place \d+ is due|here the script stops"),
@@ -114,7 +114,8 @@ def lists(told):
     for line in told:
         ordinal, answer = line.split()[:2]
         if int(answer) > 2:
-            refused.add((answer, re.search(r": refused, ([^:;]*)", line).group(1)))
+            meaning = re.search(r": refused, ([^:;]*)", line).group(1)
+            refused.add((answer, "there is no such controller or switch" if answer == "12" else meaning))
         if answer == "1":
             made.append("record %s: %s %s" % ((ordinal,) + re.search(r"; (switch \d+) is (at .*)", line).groups()))
     refused = [" ".join(part) for part in sorted(refused, key=lambda part: (int(part[0]), part[1] == EMPTY))]

@@ -164,7 +164,11 @@ tried 'a playbook without its end' 0 "$work/expected" '*notation*refused.txt, li
     "$command" "$work/refused.txt"
 echo '0 30 0' >"$work/expected"
 echo 'controllers 4' >"$work/refused.txt"
-tried 'a playbook that is not there' 0 "$work/expected" '*notation*refused.txt: refused, the input ends before *' \
+tried 'a playbook that is not there' 0 "$work/expected" '*notation*refused.txt: refused, the input stops before *' \
+    "$command" "$work/refused.txt"
+echo '1 31 0' >"$work/expected"
+printf 'controllers 4 # four\n\nend\n\n# the script\nplan switch 1 cause 1\nend\n' >"$work/refused.txt"
+tried 'a plan in the script' 0 "$work/expected" '*notation*refused.txt, line 6: the script stops here*' \
     "$command" "$work/refused.txt"
 # Every case has the form that it has: those without a visible character, or with a byte that no text has, are bytes.
 for input in "$cases"/*.in; do
@@ -196,7 +200,7 @@ tree="$work/a tree"
 mkdir -p "$tree/bin" "$tree/crates/rehearse" "$work/tools" "$work/kit" || exit 1
 cp "$command" bin/programs.sh "$tree/bin"
 echo 'rehearse:' >"$tree/crates.txt"
-for tool in cat chmod cp dirname find mkdir mv rm sh touch tr wc; do
+for tool in cat chmod cp dirname find mkdir mv rm sh tail touch tr wc; do
     ln -s "$(command -v $tool)" "$work/tools/$tool"
 done
 printf '#!/bin/sh\nexec cat\n' >"$work/kit/program"

@@ -17,7 +17,6 @@ from trials import read_first
 # Of a record.
 MEANINGS = {
     11: "it is no share",
-    12: "there is no such controller or switch",
     13: "it is for another switch",
     14: "its tag does not match",
     15: "a length above 32, or bits of the address past its length",
@@ -25,7 +24,7 @@ MEANINGS = {
     17: "its number is below that of the share held from this controller",
     18: "this controller has asked for another rule under this number",
     19: "the flow table is full",
-    22: "its serial is not above the last one decided for that switch",
+    22: "its serial is not above the last one decided for that switch, 0 at first",
     24: "more than 64 changes would be undone",
     26: "nothing is ready to send",
     29: "the places are 0 to 63",
@@ -38,7 +37,7 @@ FAULTS = {
     15: MEANINGS[15],
     20: "there can be 1 to 16 controllers",
     28: "the script is longer than 8192 bytes",
-    30: "the input ends before its playbook does",
+    30: "the input stops before the playbook's end",
     31: "a playbook has plans and changes only, and ends with end",
     34: "a change stands before any plan",
     35: "two plans have the same switch and cause",
@@ -78,7 +77,7 @@ def asked(call, given, share):
         return "controller %d makes its share for switch %d, kept in place %d" % given
     if call == "raw":
         if share is None:
-            return "made-up bytes reach switch %d" % given[0]
+            return "a made-up message reaches switch %d" % given[0]
         return "a made-up share in the name of controller %d reaches switch %d" % (share[0], given[0])
     if share is None:
         return "the share kept in place %d is due" % given
@@ -102,8 +101,10 @@ def unready(end, switch):
     return "change %d waits for change %d on switch %d" % (number, other[0], other[3])
 
 
-def came(call, answer, last):
+def came(call, answer, last, unknown):
     """What came of it; `last` is the last number that the controller had given before, and has given after it."""
+    if answer == 12:
+        return "refused, there is no " + unknown
     if answer == 0:
         return taken(last[0] + 1, last[1]) if call == "decide" else DONE.get(call, "held")
     if answer == 26 and call == "deliver":
@@ -176,8 +177,10 @@ def words(world, s):
     if share and share[0] < 16:
         before = world.switches[switch].slots[share[0]]
     why = unready(end, switch) if known and call in ("send", "keep") and message is None else None
+    sender = share[0] if share else controller
+    unknown = "switch %d" % switch if sender < world.n else "controller %d" % sender
     length, answer, figure = world.record(s)
-    told = "%s: %s" % (asked(call, given, share), came(call, answer, (last, end.last if end else 0)))
+    told = "%s: %s" % (asked(call, given, share), came(call, answer, (last, end.last if end else 0), unknown))
     if why:
         told += ": " + why
     if known and call in ("decide", "report"):

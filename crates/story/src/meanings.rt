@@ -19,7 +19,7 @@ fn say_call(answer: u8) {
         answer::LIMITS_BROKEN => say(b"there can be 1 to 16 controllers"),
         answer::WRONG_KEY_STORE => say(b"the key store has another length"),
         answer::SERIAL_DECIDED => say(
-            b"its serial is not above the last one decided for that switch",
+            b"its serial is not above the last one decided for that switch, 0 at first",
         ),
         answer::NUMBERS_EXHAUSTED => say(b"the change numbers are used up"),
         answer::TOO_MANY_UNDONE => say(b"more than 64 changes would be undone"),
@@ -35,7 +35,7 @@ pub(crate) fn say_input(answer: u8) {
     match answer {
         answer::UNKNOWN_ID => say(b"the switches are 0 to 15"),
         answer::SCRIPT_TOO_LONG => say(b"the script is longer than 8192 bytes"),
-        answer::CUT_SHORT => say(b"the input ends before its playbook does"),
+        answer::CUT_SHORT => say(b"the input stops before the playbook's end"),
         answer::UNKNOWN_KIND => say(b"a playbook has plans and changes only, and ends with end"),
         answer::NO_PLAN => say(b"a change stands before any plan"),
         answer::TRIGGER_USED => say(b"two plans have the same switch and cause"),

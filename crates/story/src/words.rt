@@ -49,7 +49,7 @@ fn say_raw(step: Step) {
         say_controller(step.controller);
         say(b" reaches ");
     } else {
-        say(b"made-up bytes reach ");
+        say(b"a made-up message reaches ");
     }
     say_switch(step.switch);
 }
@@ -128,22 +128,36 @@ fn say_reason(step: Step) {
     }
 }
 
-fn say_refused(step: Step) {
+// Which of the ends that a record or a share names there is not, among n controllers.
+fn say_unknown(n: u8, step: Step) {
+    say(b"there is no ");
+    if n <= step.controller {
+        say_controller(step.controller);
+    } else {
+        say_switch(step.switch);
+    }
+}
+
+fn say_refused(n: u8, step: Step) {
     let kind = step.kind;
     say(b"refused, ");
+    if step.answer == answer::UNKNOWN_ID {
+        say_unknown(n, step);
+        return;
+    }
     say_meaning(kind, step.answer);
     if step.answer == answer::NOTHING_TO_SEND && kind != crate::DELIVER {
         say_reason(step);
     }
 }
 
-fn say_answer(step: Step) {
+fn say_answer(n: u8, step: Step) {
     let answer = step.answer;
     match answer {
         answer::DONE => say_done(step),
         answer::APPLIED => say(b"applied"),
         answer::REPEAT => say(b"a repeat, nothing changed"),
-        _ => say_refused(step),
+        _ => say_refused(n, step),
     }
 }
 
@@ -232,7 +246,7 @@ fn say_share(n: u8, step: Step) {
 pub fn say_words(n: u8, step: Step) {
     say_asked(step);
     say(b": ");
-    say_answer(step);
+    say_answer(n, step);
     if step.begun {
         say_figure(step);
         if step.shared {
