@@ -170,6 +170,14 @@ echo '1 31 0' >"$work/expected"
 printf 'controllers 4 # four\n\nend\n\n# the script\nplan switch 1 cause 1\nend\n' >"$work/refused.txt"
 tried 'a plan in the script' 0 "$work/expected" '*notation*refused.txt, line 6: the script stops here*' \
     "$command" "$work/refused.txt"
+# The same with a mark before it and with carriage returns, as other systems write text.
+{ printf '\357\273\277' && sed "s/\$/$(printf '\r')/" "$work/refused.txt"; } >"$work/foreign.txt"
+tried 'a plan in a foreign script' 0 "$work/expected" '*notation*foreign.txt, line 6: the script stops here*' \
+    "$command" "$work/foreign.txt"
+printf 'controllers 4\r\n\r\nplan switch 1 cause 1\r\n\r\nsend controller 0 switch 1\r\n' >"$work/foreign.txt"
+echo '0 31 0' >"$work/expected"
+tried 'a foreign playbook without its end' 0 "$work/expected" '*notation*foreign.txt, line 5: refused, a playbook *' \
+    "$command" "$work/foreign.txt"
 # Every case has the form that it has: those without a visible character, or with a byte that no text has, are bytes.
 for input in "$cases"/*.in; do
     name=$(basename "$input" .in)
