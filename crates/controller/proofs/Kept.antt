@@ -25,7 +25,7 @@ use Rattle.controller.specs.Acknowledgements.{acknowledgedOf, serialOf, 
 use Rattle.controller.specs.Receiving.{receivedBy}
 use Rattle.controller.specs.Decisions.{givenBy, heldAfter, decided, decidedBy}
 use Rattle.controller.specs.Writing.{shareWritten}
-use Rattle.controller.specs.Calls.{Call, receives, decides, writesShare, replyTo, after}
+use Rattle.controller.specs.Calls.{decides, Call, receives, writesShare, manages, replyTo, after}
 use Rattle.controller.specs.declared.Controller.{Controller}
 use Rattle.controller.specs.declared.Reply.{Reply}
 use Rattle.controller.specs.declared.Undone.{Undone}
@@ -193,8 +193,8 @@ module _ (keys : List ℕ) (c : Controller) where
   pub past-refused : (x : Call) → controllerOk c ≡ false → replyTo keys c x ≡ unchanged c 20
   unfolding receivedBy decidedBy shareWritten
   past-refused (receives bytes) h = refused _ _ 20 _ _ h
-  past-refused (decides s serial cause) h = refused _ _ 20 _ _ h
   past-refused (writesShare s frame at) h = ap (λ (r : Reply × List ℕ). r .0) (refused _ _ 20 _ _ h)
+  past-refused (manages (decides s serial cause)) h = refused _ _ 20 _ _ h
 
 -- the same of lists of calls
 module _ (keys : List ℕ) (c : Controller) (xs : List Call) where

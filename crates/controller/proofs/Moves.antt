@@ -8,7 +8,7 @@ use Rattle.controller.specs.States.{unchanged}
 use Rattle.controller.specs.Acknowledgements.{acknowledgedOf, acknowledge}
 use Rattle.controller.specs.Decisions.{decided}
 use Rattle.controller.specs.Writing.{shareWritten}
-use Rattle.controller.specs.Calls.{Call, receives, decides, writesShare, replyTo, after}
+use Rattle.controller.specs.Calls.{decides, Call, receives, writesShare, manages, replyTo, after}
 use Rattle.controller.specs.declared.Controller.{Controller}
 use Rattle.controller.specs.declared.Offer.{Offer}
 use Rattle.controller.specs.declared.Reply.{Reply}
@@ -21,7 +21,7 @@ pub data Moves (keys : List ℕ) (c : Controller) : Call → Reply → Type 0 wh
   takes-acknowledgement : {bytes : List ℕ} {s number : ℕ} → Arrives c keys bytes s (Acknowledgement s (c .id) number)
       → acknowledgedOf c s < number → Moves keys c (receives bytes) (unchanged (acknowledge c s number) 0)
   takes-decision : {s serial cause : ℕ} → Decides c s serial cause
-      → Moves keys c (decides s serial cause) (unchanged (decided c s serial cause) 0)
+      → Moves keys c (manages (decides s serial cause)) (unchanged (decided c s serial cause) 0)
 
 module _ (keys : List ℕ) (c : Controller) where
   reception : {bytes : List ℕ} {r : Reply} → Received c keys bytes r → Moves keys c (receives bytes) r
@@ -30,16 +30,17 @@ module _ (keys : List ℕ) (c : Controller) where
   reception (repeated a old) = stays
   reception (acknowledged a above) = takes-acknowledgement a above
 
-  agreement : {s serial cause : ℕ} {r : Reply} → Decided c s serial cause r → Moves keys c (decides s serial cause) r
+  agreement : {s serial cause : ℕ} {r : Reply} → Decided c s serial cause r
+      → Moves keys c (manages (decides s serial cause)) r
   agreement (declined l) = stays
   agreement (taken d) = takes-decision d
 
   pub moves : (x : Call) → Moves keys c x (replyTo keys c x)
   unfolding shareWritten
   moves (receives bytes) = reception (received c keys bytes)
-  moves (decides s serial cause) = agreement (decision c s serial cause)
   moves (writesShare s frame at) =
       reply-keeps (λ (r : Reply × List ℕ). Moves keys c (writesShare s frame at) (r .0)) _ _ _ (λ k. stays) (λ h. stays)
+  moves (manages (decides s serial cause)) = agreement (decision c s serial cause)
 
 -- what every call keeps, a list of calls keeps
 pub after-keeps : (P : Controller → Type 0) (keys : List ℕ)

@@ -14,7 +14,7 @@ use Rattle.answer.proofs.Asked.{reply-ap, all-yes, some-no, answered, reply-kee
 use Rattle.answer.proofs.Bools.{tf}
 use Rattle.message.specs.Keys.{keyLength, keyAt}
 use Rattle.message.specs.Layout.{shareLength}
-use Rattle.message.specs.Writing.{encode, isMessage, placed, InRange}
+use Rattle.message.specs.Writing.{encode, lengthOf, isMessage, placed, InRange}
 use Rattle.message.specs.declared.Message.the-variants.{Share}
 use Rattle.message.proofs.Written.{Sent, placed-message, sent}
 use Rattle.controller.specs.Changes.{meaning}
@@ -118,7 +118,7 @@ module _ (c : Controller) (keys : List ℕ) (s : ℕ) (frame : List ℕ) (at : �
     frame-is = ap (λ (r : Reply × List ℕ). r .1) (all-yes questions _ _ refl (sym answer-is ∙ h))
 
     -- the bytes are the share's, be its numbers in range or not
-    pub share-bytes : take shareLength (drop at (shareWritten c keys s frame at .1))
+    pub share-bytes : take (lengthOf (shareFor c s)) (drop at (shareWritten c keys s frame at .1))
         ≡ encode (keyAt keys s) (shareFor c s)
     share-bytes =
         let u = allowed .change in

@@ -21,7 +21,7 @@ use Rattle.controller.specs.Changes.{emptyUndone, meaning, numbersOf, is
 use Rattle.controller.specs.Acknowledgements.{acknowledgedOf, acknowledge}
 use Rattle.controller.specs.Readiness.{isReady, readyOf, readyFor}
 use Rattle.controller.specs.Decisions.{heldAfter, decided}
-use Rattle.controller.specs.Calls.{Call, receives, decides, replyTo}
+use Rattle.controller.specs.Calls.{decides, Call, receives, manages, replyTo}
 use Rattle.controller.specs.declared.Controller.{Controller}
 use Rattle.controller.specs.declared.Ready.{Ready}
 use Rattle.controller.specs.declared.Ready.the-variants.{Nothing, Change}
@@ -170,11 +170,11 @@ pub data Alters (keys : List ℕ) (c : Controller) (s : ℕ) : Call → Controll
       → Alters keys c s (receives bytes) (acknowledge c from number)
   by-decision : {on serial cause : ℕ} → Decides c on serial cause
       → every (elsewhere s) (meaning (c .undone)) ≡ true
-      → Alters keys c s (decides on serial cause) (decided c on serial cause)
+      → Alters keys c s (manages (decides on serial cause)) (decided c on serial cause)
 
 module _ (keys : List ℕ) (c : Controller) (s : ℕ) where
   decision-alters : (on serial cause : ℕ) → Decides c on serial cause
-      → Alters keys c s (decides on serial cause) (decided c on serial cause)
+      → Alters keys c s (manages (decides on serial cause)) (decided c on serial cause)
   decision-alters on serial cause d =
       let us = meaning (c .undone) in
       by-bool (every (elsewhere s) us)

@@ -7,18 +7,26 @@ use Rattle.controller.specs.Writing.{shareWritten}
 use Rattle.controller.specs.declared.Controller.{Controller}
 use Rattle.controller.specs.declared.Reply.{Reply}
 
--- a call, with what the caller brings: bytes; a switch, a serial and a cause; or a switch, a frame and an offset
+-- a call that no other end sees, with what the caller brings: a switch, a serial and a cause
+pub data Managing : Type 0 where
+  decides : ℕ → ℕ → ℕ → Managing
+
+-- a call, with what the caller brings: bytes; a switch, a frame and an offset; or a call that no other end sees
 pub data Call : Type 0 where
   receives : List ℕ → Call
-  decides : ℕ → ℕ → ℕ → Call
   writesShare : ℕ → List ℕ → ℕ → Call
+  manages : Managing → Call
+
+-- what a call that no other end sees replies
+abbrev pub managedBy : Controller → Managing → Reply
+managedBy c (decides s serial cause) = decidedBy c s serial cause
 
 module _ (keys : List ℕ) where
   -- what a call replies
   abbrev pub replyTo : Controller → Call → Reply
   replyTo c (receives bytes) = receivedBy c keys bytes
-  replyTo c (decides s serial cause) = decidedBy c s serial cause
   replyTo c (writesShare s frame at) = shareWritten c keys s frame at .0
+  replyTo c (manages m) = managedBy c m
 
   -- the state after a list of calls, each getting the state that the last one returned
   unfoldable pub after : Controller → List Call → Controller

@@ -213,7 +213,7 @@ module _ (S : Setting) (v : Valid S) (r : Run) (c : ℕ) (ds : List Decision)
   module _ (s serial cause : ℕ) (rest : List Decision) where
     abbrev after : List Decision
     after = ds ++ decisionIn isBrought c (decidedBy t s serial cause .answer)
-        (atController c (controller-calls.decides s serial cause))
+        (atController c (controller-calls.manages (controller-calls.decides s serial cause)))
 
     same-numbers : decidedBy t s serial cause .state .acknowledged ≡ t .acknowledged
     unfolding decidedBy
@@ -221,17 +221,17 @@ module _ (S : Setting) (v : Valid S) (r : Run) (c : ℕ) (ds : List Decision)
         reply-keeps (λ (y : Reply). y .state .acknowledged ≡ t .acknowledged) _ _ _ (λ k. refl) (λ y. refl)
 
     pub decision-seen : S .agreed ≡ after ++ rest
-        → Seen S r (atController c (controller-calls.decides s serial cause))
+        → Seen S r (atController c (controller-calls.manages (controller-calls.decides s serial cause)))
     unfolding seen protocol-worlds.step
     decision-seen begins =
         let next = decidedBy t s serial cause .state in
         let fine = decision-after S c ds t f s serial cause in
         record {
-          is = moved (controller-calls.decides s serial cause) _
+          is = moved (controller-calls.manages (controller-calls.decides s serial cause)) _
               (ap (λ (l : List ℕ). record { last = next .last; acknowledged = λ i. getD l i 0 }) same-numbers)
               (messages (r .log)) refl;
           allowed = (
-            call-grows keys t (controller-calls.decides s serial cause) .last,
+            call-grows keys t (controller-calls.manages (controller-calls.decides s serial cause)) .last,
             given-few S c after rest begins next fine,
           );
         }
@@ -264,7 +264,7 @@ module _ (S : Setting) (v : Valid S) (r : Run) (c : ℕ) (ds : List Decision)
 
       share-read : decode ends.Switch (controllerWrites keys t (controller-calls.writesShare s frame at))
           ≡ Share (t .id) s (u .number) (u .rule)
-      share-read = share-there .read
+      share-read = rw (allowed t keys s frame at e .ready) (share-there .read)
 
       share-seen : view (step S r (atController c (controller-calls.writesShare s frame at)))
           ≡ protocol-worlds.step D (view r) (protocol-worlds.writesShare c (u .number))

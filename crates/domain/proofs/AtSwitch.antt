@@ -1,16 +1,16 @@
--- A call at a switch is the protocol's: bytes received are a share taken or nothing, raising and writing an event
--- nothing, and an acknowledgement written is one. Assumes nothing.
+-- A call at a switch is the protocol's: bytes received are a share taken or nothing, an acknowledgement written is one,
+-- and every other call is nothing.
 use mathlib.Core.Path.{_≡_, refl, sym, ap, ap₂, _∙_}
 use mathlib.Core.Bool.{true, false, _&&_}
 use mathlib.Core.List.{List, _∷_}
 use Prim.Native.Nat.{ℕ, _*_, _^_, _≤_, _<_}
 use native.Mathlib.Omega.{arith}
 use lib.Dec.{ltb, eqb}
-use lib.ListN.{length}
+use lib.ListN.{length, getD}
 use borrow.Author.Tests.{eqb-true, eq-eqb, ne-eqb}
 use Rattle.answer.specs.Ask.{pick, reply}
-use Rattle.answer.proofs.Asked.{refused, reply-keeps}
-use Rattle.answer.proofs.Bools.{by-bool, pick-keeps}
+use Rattle.answer.proofs.Asked.{refused}
+use Rattle.answer.proofs.Bools.{by-bool, pick-keeps, pick-same}
 use Rattle.flow.specs.Rules.{wellFormed}
 use Rattle.flow.specs.declared.Rule.{Rule}
 use Rattle.flow.specs.declared.Table.{Table}
@@ -25,12 +25,12 @@ use Rattle.message.proofs.Lengths.{encode-length}
 use Rattle.switch.specs.States.{unchanged}
 use Rattle.switch.specs.Shares.{takeShare}
 use Rattle.switch.specs.Receiving.{receivedBy}
-use Rattle.switch.specs.Raising.{raisedBy}
+use Rattle.switch.specs.Slots.{emptySlot}
 use Rattle.switch.specs.Writing.{eventFor, acknowledgementFor, eventWritten, acknowledgementWritten}
 use Rattle.switch.specs.Calls as switch-calls
-use Rattle.switch.specs.Calls.{receives, raises, writesEvent, writesAcknowledgement}
-use Rattle.switch.specs.declared.Reply.{Reply}
+use Rattle.switch.specs.Calls.{Kind, event, acknowledgement, Managing, receives, writes, manages}
 use Rattle.switch.specs.declared.Switch.{Switch}
+use Rattle.switch.proofs.Moves.{Leaves, managed-leaves}
 use Rattle.switch.proofs.Sent.{written-state, sent-bytes, acknowledgement-sent}
 use Rattle.protocol.specs.Families.{upd}
 use Rattle.protocol.specs.Ends as protocol
@@ -41,7 +41,7 @@ use Rattle.domain.specs.Settings.{Setting, Valid, switchKeys}
 use Rattle.domain.specs.Calls.{Call, atSwitch, Run, switchWrites, step}
 use Rattle.domain.specs.Premises.{Unforged}
 use Rattle.domain.specs.Premises as premises
-use Rattle.domain.proofs.View.{domainOf, viewSwitch, viewReply, said, messages, madeIn, madeSo, view, seen}
+use Rattle.domain.proofs.View.{domainOf, viewSlot, viewSwitch, viewReply, said, messages, madeIn, madeSo, view, seen}
 use Rattle.domain.proofs.View.{acknowledgementSaid, isFrom, Seen}
 use Rattle.message.proofs.Stores.{joined-length, joined-at}
 use Rattle.domain.proofs.Shares.{share-view}
@@ -180,20 +180,25 @@ module _ (S : Setting) (v : Valid S) (r : Run) (s : ℕ) (l : s < 16) (f : Switc
         not-read : (k : ℕ) → decode ends.Switch bytes ≡ Refused k → receivedBy t keys bytes ≡ unchanged t k
         not-read k d = unfold receivedBy reply in rw (f .ok, eq-eqb _ _ store, d)
 
-  -- raising an event
-  pub raised-seen : (cause : ℕ) → Seen S r (atSwitch s (raises cause))
-  unfolding seen raisedBy
-  raised-seen cause = record {
-    is = unseen (raises cause)
-        (reply-keeps (λ (y : Reply). viewSwitch (y .state) ≡ viewSwitch t) _ _ _ (λ k. refl) (λ y. refl)) refl refl
-        ∙ sym (other-stays D (view r));
+  -- a call that no other end sees
+  leaves-view : {u : Switch} → Leaves t u → viewSwitch u ≡ viewSwitch t
+  leaves-view left = λ i. record {
+    last = left .last i;
+    table = left .table i;
+    slots = λ c. viewSlot (getD (left .slots i) c emptySlot);
+  }
+
+  pub managed-seen : (m : Managing) → Seen S r (atSwitch s (manages m))
+  unfolding seen
+  managed-seen m = record {
+    is = unseen (manages m) (leaves-view (managed-leaves t m)) refl refl ∙ sym (other-stays D (view r));
     allowed = tt;
   }
 
   module _ (c : ℕ) (frame : List ℕ) (at : ℕ) where
     -- an event written is read as an event, and says nothing
     event-said : eventWritten t keys c frame at .0 .answer ≡ 0
-        → acknowledgementSaid s c (decode ends.Controller (switchWrites keys t (writesEvent c frame at)))
+        → acknowledgementSaid s c (decode ends.Controller (switchWrites keys t (writes event c frame at)))
         (messages (r .log))
         ≡ messages (r .log)
     event-said e =
@@ -202,16 +207,19 @@ module _ (S : Setting) (v : Valid S) (r : Run) (s : ℕ) (l : s < 16) (f : Switc
         let bytes = sent-bytes t keys c m (ltb 0 (t .raised .serial)) frame at e in
         rw (bytes, decode-event (encode key m) (encode-length key m) refl)
 
-    pub event-seen : Seen S r (atSwitch s (writesEvent c frame at))
+    event-seen : Seen S r (atSwitch s (writes event c frame at))
     unfolding seen
-    event-seen = record {
-      is = unseen (writesEvent c frame at) (ap viewSwitch (written-state t keys c (eventFor t c) _ frame at))
-          (pick-keeps (λ l. l ≡ messages (r .log)) (eqb (eventWritten t keys c frame at .0 .answer) 0) _ _
-          (λ e. event-said (eqb-true _ _ e)) (λ e. refl))
-          refl
-          ∙ sym (other-stays D (view r));
-      allowed = tt;
-    }
+    event-seen =
+        let same = pick-same {A = protocol-worlds.Call Rule} (eqb (eventWritten t keys c frame at .0 .answer) 0) protocol-worlds.other in
+        record {
+          is = rw same (unseen (writes event c frame at)
+              (ap viewSwitch (written-state t keys c (eventFor t c) _ frame at))
+              (pick-keeps (λ l. l ≡ messages (r .log)) (eqb (eventWritten t keys c frame at .0 .answer) 0) _ _
+              (λ e. event-said (eqb-true _ _ e)) (λ e. refl))
+              refl
+              ∙ sym (other-stays D (view r)));
+          allowed = rw same tt;
+        }
 
     -- an acknowledgement written is read as that of the last applied number
     module _ (small : t .last < 256 ^ 4) where
@@ -219,7 +227,7 @@ module _ (S : Setting) (v : Valid S) (r : Run) (s : ℕ) (l : s < 16) (f : Switc
       answer = acknowledgementWritten t keys c frame at .0 .answer
 
       written-seen : answer ≡ 0
-          → view (step S r (atSwitch s (writesAcknowledgement c frame at)))
+          → view (step S r (atSwitch s (writes acknowledgement c frame at)))
           ≡ protocol-worlds.step D (view r) (protocol-worlds.writesAcknowledgement s c)
       unfolding step messages madeSo protocol-worlds.step
       written-seen e =
@@ -229,8 +237,8 @@ module _ (S : Setting) (v : Valid S) (r : Run) (s : ℕ) (l : s < 16) (f : Switc
           let switches : (u : ℕ) → viewSwitch (upd (r .switches) s left u) ≡ viewSwitch (r .switches u) =
           λ u. upd-at (λ u z. viewSwitch z ≡ viewSwitch (r .switches u)) (r .switches) s left u (ap viewSwitch same)
           (λ n. refl) in
-          let written : said answer (atSwitch s (writesAcknowledgement c frame at))
-          (switchWrites keys t (writesAcknowledgement c frame at)) (messages (r .log))
+          let written : said answer (atSwitch s (writes acknowledgement c frame at))
+          (switchWrites keys t (writes acknowledgement c frame at)) (messages (r .log))
           ≡ protocol-worlds.acknowledgement s c (t .last) ∷ messages (r .log) =
           rw (e, read) in
           λ i. record {
@@ -240,14 +248,19 @@ module _ (S : Setting) (v : Valid S) (r : Run) (s : ℕ) (l : s < 16) (f : Switc
             made = madeSo (r .log);
           }
 
-      pub acknowledgement-seen : Seen S r (atSwitch s (writesAcknowledgement c frame at))
+      acknowledgement-seen : Seen S r (atSwitch s (writes acknowledgement c frame at))
       unfolding seen
       acknowledgement-seen =
           by-bool (eqb answer 0)
           (λ e. record { is = rw e (written-seen (eqb-true _ _ e)); allowed = rw e tt })
           (λ e. record {
-            is = rw e (unseen (writesAcknowledgement c frame at)
+            is = rw e (unseen (writes acknowledgement c frame at)
                 (ap viewSwitch (written-state t keys c (acknowledgementFor t c) true frame at)) (rw e) refl
                 ∙ sym (other-stays D (view r)));
             allowed = rw e tt;
           })
+
+      -- a message of either kind written
+      pub writing-seen : (kind : Kind) → Seen S r (atSwitch s (writes kind c frame at))
+      writing-seen event = event-seen
+      writing-seen acknowledgement = acknowledgement-seen

@@ -175,7 +175,7 @@ module _ (S : Setting) where
       -- what is then brought so far
       abbrev more : List Decision
       more = decisionIn isBrought c (decidedBy t s serial cause .answer)
-          (atController c (controller-calls.decides s serial cause))
+          (atController c (controller-calls.manages (controller-calls.decides s serial cause)))
 
       one-more : courseOf (ds ++ decision ∷ []) ≡ advance (playbook S) course decision
       one-more = along-append (playbook S) beginning ds (decision ∷ [])
@@ -218,7 +218,7 @@ module _ (S : Setting) where
       pub decision-took : (ts : List Decision) → courseOf ds ≡ courseOf ts
           → courseOf (ds ++ more)
           ≡ courseOf (ts ++ decisionIn (λ answer. eqb answer 0) c (decidedBy t s serial cause .answer)
-          (atController c (controller-calls.decides s serial cause)))
+          (atController c (controller-calls.manages (controller-calls.decides s serial cause))))
       decision-took ts same =
           let grown = along-append (playbook S) beginning ts (decision ∷ [])
           ∙ ap (λ (a : Course). advance (playbook S) a decision) (sym same) in

@@ -21,7 +21,7 @@ use Rattle.message.specs.Senders.{senderQuestions}
 use Rattle.message.specs.declared.End.the-variants as ends
 use Rattle.message.specs.declared.Message.{Message}
 use Rattle.message.specs.declared.Message.the-variants.{Event, Share, Acknowledgement, Refused}
-use Rattle.switch.specs.Calls.{receives, raises, writesEvent, writesAcknowledgement}
+use Rattle.switch.specs.Calls.{receives, writes, manages}
 use Rattle.controller.specs.Calls as controller-calls
 use Rattle.protocol.specs.Worlds as protocol-worlds
 use Rattle.domain.specs.Calls.{Call, atSwitch, atController, Done}
@@ -49,16 +49,14 @@ module _ (m : protocol-worlds.Message Rule) where
   -- a call more
   said-more : (answer : ℕ) (x : Call) (bytes : List ℕ) (l : List (protocol-worlds.Message Rule)) → Among l
       → Among (said answer x bytes l)
-  said-more answer (atSwitch s (writesEvent c frame at)) bytes l h =
-      pick-keeps Among (eqb answer 0) _ _ (λ e. acknowledgement-more s c (decode ends.Controller bytes) l h) (λ e. h)
-  said-more answer (atSwitch s (writesAcknowledgement c frame at)) bytes l h =
-      pick-keeps Among (eqb answer 0) _ _ (λ e. acknowledgement-more s c (decode ends.Controller bytes) l h) (λ e. h)
   said-more answer (atSwitch s (receives x)) bytes l h = h
-  said-more answer (atSwitch s (raises cause)) bytes l h = h
+  said-more answer (atSwitch s (writes kind c frame at)) bytes l h =
+      pick-keeps Among (eqb answer 0) _ _ (λ e. acknowledgement-more s c (decode ends.Controller bytes) l h) (λ e. h)
+  said-more answer (atSwitch s (manages y)) bytes l h = h
+  said-more answer (atController c (controller-calls.receives x)) bytes l h = h
   said-more answer (atController c (controller-calls.writesShare s frame at)) bytes l h =
       pick-keeps Among (eqb answer 0) _ _ (λ e. share-more c s (decode ends.Switch bytes) l h) (λ e. h)
-  said-more answer (atController c (controller-calls.receives x)) bytes l h = h
-  said-more answer (atController c (controller-calls.decides s serial cause)) bytes l h = h
+  said-more answer (atController c (controller-calls.manages y)) bytes l h = h
 
   -- what a call in the log said is among the messages
   said-in : (d : Done) → ((l : List (protocol-worlds.Message Rule)) → Among (said (d .answer) (d .call) (d .written) l))
@@ -84,13 +82,12 @@ acknowledgement-there s c e l = rw e (List·Memᴰ·head refl)
 pub share-said : {log : List Done} {c s : ℕ} {bytes : List ℕ} → ControllerWrote log c s bytes → {i t k : ℕ}
     {rule : Rule} → decode ends.Switch bytes ≡ Share i t k rule
     → List·Memᴰ (protocol-worlds.share c s k rule) (messages log)
-share-said {log} {c} {s} (premises.share h) e = said-in _ _ (share-there c s e) log h
+share-said {log} {c} {s} (premises.by-controller h) e = said-in _ _ (share-there c s e) log h
 
 pub acknowledgement-said : {log : List Done} {s c : ℕ} {bytes : List ℕ} → SwitchWrote log s c bytes → {i t k : ℕ}
     → decode ends.Controller bytes ≡ Acknowledgement i t k
     → List·Memᴰ (protocol-worlds.acknowledgement s c k) (messages log)
-acknowledgement-said {log} {s} {c} (premises.event h) e = said-in _ _ (acknowledgement-there s c e) log h
-acknowledgement-said {log} {s} {c} (premises.acknowledgement h) e = said-in _ _ (acknowledgement-there s c e) log h
+acknowledgement-said {log} {s} {c} (premises.by-switch h) e = said-in _ _ (acknowledgement-there s c e) log h
 
 -- question 14 is the tag's own equation
 pub sealed-tagged : (key bytes : List ℕ) → isSealed key bytes ≡ true → Tagged key bytes

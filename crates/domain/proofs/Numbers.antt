@@ -18,7 +18,7 @@ use Rattle.flow.specs.declared.Rule.{Rule}
 use Rattle.message.specs.Layout.{numberAt}
 use Rattle.message.specs.Reading.{decode}
 use Rattle.message.specs.declared.End.the-variants as ends
-use Rattle.switch.specs.Calls.{receives, raises, writesEvent, writesAcknowledgement}
+use Rattle.switch.specs.Calls.{receives, writes, manages}
 use Rattle.protocol.specs.Worlds as protocol-worlds
 use Rattle.domain.specs.Calls.{Call, atSwitch, atController, Done}
 use Rattle.domain.specs.Claim.{Made, madeBy, made, numbers, numbersAt, highest}
@@ -31,10 +31,8 @@ withoutRule m = record { switch = m .switch; number = m .number }
 one-made : (answer : ℕ) (x : Call) (l : List (protocol-worlds.Made Rule)) {ms : List Made} → ms ≡ map withoutRule l
     → madeBy answer x ++ ms ≡ map withoutRule (madeIn answer x l)
 one-made answer (atSwitch s (receives bytes)) l e = by-bool (eqb answer 1) (λ q. rw (q, e)) (λ q. rw (q, e))
-one-made answer (atSwitch s (raises cause)) l e = by-bool (eqb answer 1) (λ q. rw (q, e)) (λ q. rw (q, e))
-one-made answer (atSwitch s (writesEvent c frame at)) l e = by-bool (eqb answer 1) (λ q. rw (q, e)) (λ q. rw (q, e))
-one-made answer (atSwitch s (writesAcknowledgement c frame at)) l e =
-    by-bool (eqb answer 1) (λ q. rw (q, e)) (λ q. rw (q, e))
+one-made answer (atSwitch s (writes kind c frame at)) l e = by-bool (eqb answer 1) (λ q. rw (q, e)) (λ q. rw (q, e))
+one-made answer (atSwitch s (manages m)) l e = by-bool (eqb answer 1) (λ q. rw (q, e)) (λ q. rw (q, e))
 one-made answer (atController c x) l e = e
 
 pub made-is : (log : List Done) → made log ≡ map withoutRule (madeSo log)
@@ -56,9 +54,8 @@ more-made : (m : protocol-worlds.Made Rule) (answer : ℕ) (x : Call) (l : List 
     → List·Memᴰ m l → List·Memᴰ m (madeIn answer x l)
 more-made m answer (atSwitch s (receives bytes)) l h =
     pick-keeps (λ l. List·Memᴰ m l) (eqb answer 1) _ _ (λ e. List·Memᴰ·tail h) (λ e. h)
-more-made m answer (atSwitch s (raises cause)) l h = h
-more-made m answer (atSwitch s (writesEvent c frame at)) l h = h
-more-made m answer (atSwitch s (writesAcknowledgement c frame at)) l h = h
+more-made m answer (atSwitch s (writes kind c frame at)) l h = h
+more-made m answer (atSwitch s (manages y)) l h = h
 more-made m answer (atController c x) l h = h
 
 abbrev pub madeOf : ℕ → List ℕ → protocol-worlds.Made Rule

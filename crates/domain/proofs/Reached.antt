@@ -20,7 +20,7 @@ use Rattle.message.specs.declared.Message.the-variants.{Share}
 use Rattle.playbook.specs.Printing.{InRange}
 use Rattle.playbook.proofs.Ranges.{read-range}
 use Rattle.switch.specs.Calls as switch-calls
-use Rattle.switch.specs.Calls.{receives, raises, writesEvent, writesAcknowledgement}
+use Rattle.switch.specs.Calls.{receives, writes, manages}
 use Rattle.switch.specs.Slots.{emptySlot}
 use Rattle.switch.specs.declared.Reply as switch-reply
 use Rattle.switch.specs.declared.Switch.{Switch}
@@ -80,9 +80,9 @@ module _ (S : Setting) where
         → decisions test c (step S r (atController i x) .log) ≡ decisions test c (r .log)
     unfolding step decisions
     by-other i (controller-calls.receives bytes) n = append-nil (decisions test c (r .log))
-    by-other i (controller-calls.decides s serial cause) n =
-        rw (ne-eqb i c n) (append-nil (decisions test c (r .log)))
     by-other i (controller-calls.writesShare s frame at) n = append-nil (decisions test c (r .log))
+    by-other i (controller-calls.manages (controller-calls.decides s serial cause)) n =
+        rw (ne-eqb i c n) (append-nil (decisions test c (r .log)))
 
   -- so what was brought earlier is a beginning too
   begun-before : (r : Run) (x : Call) → Begun (step S r x) → Begun r
@@ -162,20 +162,19 @@ module _ (S : Setting) where
       pub call-seen : (x : Call) → InRun S r x → Unforged S r x → Begun (step S r x) → Seen S r x
       call-seen (atSwitch s (receives bytes)) l honest begun =
           at-switch.received-seen S v r s l (R .switches s l) bytes honest
-      call-seen (atSwitch s (raises cause)) l honest begun = at-switch.raised-seen S v r s l (R .switches s l) cause
-      call-seen (atSwitch s (writesEvent c frame at)) l honest begun =
-          at-switch.event-seen S v r s l (R .switches s l) c frame at
-      call-seen (atSwitch s (writesAcknowledgement c frame at)) l honest begun =
-          at-switch.acknowledgement-seen S v r s l (R .switches s l) c frame at (last-small s)
+      call-seen (atSwitch s (writes kind c frame at)) l honest begun =
+          at-switch.writing-seen S v r s l (R .switches s l) c frame at (last-small s) kind
+      call-seen (atSwitch s (manages m)) l honest begun = at-switch.managed-seen S v r s l (R .switches s l) m
       call-seen (atController c (controller-calls.receives bytes)) keeps honest begun =
           at-controller.received-seen S v r c _ (R .controllers c keeps) bytes honest
-      call-seen (atController c (controller-calls.decides s serial cause)) keeps honest begun =
-          let b = begun c keeps in
-          at-controller.decision-seen S v r c _ (R .controllers c keeps) s serial cause (b .0)
-          (unfold step decisions in b .1)
       call-seen (atController c (controller-calls.writesShare s frame at)) keeps honest begun =
           let b = begun-before r (atController c (controller-calls.writesShare s frame at)) begun c keeps in
           at-controller.share-written-seen S v r c _ (R .controllers c keeps) ranged (b .0) (b .1) s frame at
+      call-seen (atController c (controller-calls.manages (controller-calls.decides s serial cause))) keeps honest
+          begun =
+          let b = begun c keeps in
+          at-controller.decision-seen S v r c _ (R .controllers c keeps) s serial cause (b .0)
+          (unfold step decisions in b .1)
 
       -- and leaves the ends as they should be
       switches-after : (x : Call) → InRun S r x → (s : ℕ) → s < 16 → SwitchFine S s (step S r x .switches s)
@@ -191,10 +190,10 @@ module _ (S : Setting) where
       unfolding step decisions
       itself-after c (controller-calls.receives bytes) keeps =
           rw append-nil (reception-after S c _ _ (R .controllers c keeps) (controllerKeys S c) bytes)
-      itself-after c (controller-calls.decides s serial cause) keeps =
-          decision-after S c _ _ (R .controllers c keeps) s serial cause
       itself-after c (controller-calls.writesShare s frame at) keeps =
           rw append-nil (writing-after S c _ _ (R .controllers c keeps) (controllerKeys S c) s frame at)
+      itself-after c (controller-calls.manages (controller-calls.decides s serial cause)) keeps =
+          decision-after S c _ _ (R .controllers c keeps) s serial cause
 
       controllers-after : (x : Call) → InRun S r x → (c : ℕ) → Keeps S c
           → ControllerFine S c (brought c (step S r x .log)) (step S r x .controllers c)
@@ -209,9 +208,9 @@ module _ (S : Setting) where
           ≡ courseOf S (taken c (step S r (atController c x) .log))
       unfolding step decisions
       took-itself c (controller-calls.receives bytes) keeps = rw (append-nil, append-nil) (R .took c keeps)
-      took-itself c (controller-calls.decides s serial cause) keeps =
-          decision-took S c _ _ (R .controllers c keeps) s serial cause (taken c (r .log)) (R .took c keeps)
       took-itself c (controller-calls.writesShare s frame at) keeps = rw (append-nil, append-nil) (R .took c keeps)
+      took-itself c (controller-calls.manages (controller-calls.decides s serial cause)) keeps =
+          decision-took S c _ _ (R .controllers c keeps) s serial cause (taken c (r .log)) (R .took c keeps)
 
       took-after : (x : Call) (c : ℕ) → Keeps S c
           → courseOf S (brought c (step S r x .log)) ≡ courseOf S (taken c (step S r x .log))
@@ -234,9 +233,8 @@ module _ (S : Setting) where
             ap (decode ends.Switch) same ∙ m .arrives .share
                 ∙ ap (λ (i : ℕ). Share (m .controller) i (m .number) (m .rule)) (R .switches s l .id),
           )
-      read-so s (raises cause) l bytes e one = never cc
-      read-so s (writesEvent c frame at) l bytes e one = never cc
-      read-so s (writesAcknowledgement c frame at) l bytes e one = never cc
+      read-so s (writes kind c frame at) l bytes e one = never cc
+      read-so s (manages m) l bytes e one = never cc
 
       read-after : (x : Call) → InRun S r x → SharesRead (step S r x .log)
       unfolding step

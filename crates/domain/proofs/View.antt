@@ -21,8 +21,7 @@ use Rattle.message.specs.declared.Message.{Message}
 use Rattle.message.specs.declared.Message.the-variants.{Event, Share, Acknowledgement, Refused}
 use Rattle.switch.specs.Slots.{quorumOf}
 use Rattle.switch.specs.Shares.{slotOf}
-use Rattle.switch.specs.Writing.{acknowledgementWritten}
-use Rattle.switch.specs.Calls.{receives, raises, writesEvent, writesAcknowledgement}
+use Rattle.switch.specs.Calls.{receives, writes, manages, messageFor, messageWritten}
 use Rattle.switch.specs.declared.Reply.{Reply}
 use Rattle.switch.specs.declared.Slot.{Slot}
 use Rattle.switch.specs.declared.Switch.{Switch}
@@ -90,16 +89,14 @@ acknowledgementSaid s c (Share i t k rule) l = l
 acknowledgementSaid s c (Refused k) l = l
 
 abbrev pub said : ℕ → Call → List ℕ → List (protocol-worlds.Message Rule) → List (protocol-worlds.Message Rule)
-said answer (atSwitch s (writesEvent c frame at)) bytes l =
-    pick (eqb answer 0) (acknowledgementSaid s c (decode ends.Controller bytes) l) l
-said answer (atSwitch s (writesAcknowledgement c frame at)) bytes l =
-    pick (eqb answer 0) (acknowledgementSaid s c (decode ends.Controller bytes) l) l
 said answer (atSwitch s (receives x)) bytes l = l
-said answer (atSwitch s (raises cause)) bytes l = l
+said answer (atSwitch s (writes kind c frame at)) bytes l =
+    pick (eqb answer 0) (acknowledgementSaid s c (decode ends.Controller bytes) l) l
+said answer (atSwitch s (manages m)) bytes l = l
+said answer (atController c (controller-calls.receives x)) bytes l = l
 said answer (atController c (controller-calls.writesShare s frame at)) bytes l =
     pick (eqb answer 0) (shareSaid c s (decode ends.Switch bytes) l) l
-said answer (atController c (controller-calls.receives x)) bytes l = l
-said answer (atController c (controller-calls.decides s serial cause)) bytes l = l
+said answer (atController c (controller-calls.manages m)) bytes l = l
 
 unfoldable pub messages : List Done → List (protocol-worlds.Message Rule)
 messages [] = []
@@ -116,9 +113,8 @@ abbrev pub madeIn : ℕ → Call → List (protocol-worlds.Made Rule) → List (
 madeIn answer (atSwitch s (receives bytes)) l =
     pick (eqb answer 1)
     (record { switch = s; number = field bytes numberAt 4; content = ruleIn (decode ends.Switch bytes) } ∷ l) l
-madeIn answer (atSwitch s (raises cause)) l = l
-madeIn answer (atSwitch s (writesEvent c frame at)) l = l
-madeIn answer (atSwitch s (writesAcknowledgement c frame at)) l = l
+madeIn answer (atSwitch s (writes kind c frame at)) l = l
+madeIn answer (atSwitch s (manages m)) l = l
 madeIn answer (atController c x) l = l
 
 unfoldable pub madeSo : List Done → List (protocol-worlds.Made Rule)
@@ -139,7 +135,8 @@ abbrev pub isFrom : ℕ → ℕ → List ℕ → List ℕ → ℕ → ℕ → Bo
 isFrom all id keys bytes sender receiver =
     ltb sender all && eqb receiver id && isSealed (keyAt keys sender) bytes
 
--- what the protocol sees of a share that arrived, of an acknowledgement that did, and of a ready change's share
+-- what the protocol sees of a share that arrived, of an acknowledgement that did, of what a switch wrote for a
+-- controller, and of a ready change's share
 abbrev pub shareSeen : Setting → ℕ → List ℕ → Message → protocol-worlds.Call Rule
 shareSeen S s bytes (Share c to k rule) =
     pick (isFrom (S .n) s (switchKeys S s) bytes c to && wellFormed rule)
@@ -156,6 +153,12 @@ acknowledgementSeen S c bytes (Event i t k x) = protocol-worlds.other
 acknowledgementSeen S c bytes (Share i t k rule) = protocol-worlds.other
 acknowledgementSeen S c bytes (Refused k) = protocol-worlds.other
 
+abbrev pub writtenSeen : ℕ → ℕ → Message → protocol-worlds.Call Rule
+writtenSeen s c (Acknowledgement i t k) = protocol-worlds.writesAcknowledgement s c
+writtenSeen s c (Event i t k x) = protocol-worlds.other
+writtenSeen s c (Share i t k rule) = protocol-worlds.other
+writtenSeen s c (Refused k) = protocol-worlds.other
+
 abbrev pub readySeen : ℕ → Message → protocol-worlds.Call Rule
 readySeen c (Share i t k rule) = protocol-worlds.writesShare c k
 readySeen c (Event i t k x) = protocol-worlds.other
@@ -166,18 +169,17 @@ module _ (S : Setting) where
   -- the protocol's call
   unfoldable pub seen : Run → Call → protocol-worlds.Call Rule
   seen r (atSwitch s (receives bytes)) = shareSeen S s bytes (decode ends.Switch bytes)
-  seen r (atSwitch s (raises cause)) = protocol-worlds.other
-  seen r (atSwitch s (writesEvent c frame at)) = protocol-worlds.other
-  seen r (atSwitch s (writesAcknowledgement c frame at)) =
-      pick (eqb (acknowledgementWritten (r .switches s) (switchKeys S s) c frame at .0 .answer) 0)
-      (protocol-worlds.writesAcknowledgement s c) protocol-worlds.other
+  seen r (atSwitch s (writes kind c frame at)) =
+      pick (eqb (messageWritten kind (r .switches s) (switchKeys S s) c frame at .0 .answer) 0)
+      (writtenSeen s c (messageFor kind (r .switches s) c)) protocol-worlds.other
+  seen r (atSwitch s (manages m)) = protocol-worlds.other
   seen r (atController c (controller-calls.receives bytes)) =
       acknowledgementSeen S c bytes (decode ends.Controller bytes)
-  seen r (atController c (controller-calls.decides s serial cause)) =
-      protocol-worlds.decides c (decidedBy (r .controllers c) s serial cause .state .last)
   seen r (atController c (controller-calls.writesShare s frame at)) =
       pick (eqb (shareWritten (r .controllers c) (controllerKeys S c) s frame at .0 .answer) 0)
       (readySeen c (shareFor (r .controllers c) s)) protocol-worlds.other
+  seen r (atController c (controller-calls.manages (controller-calls.decides s serial cause))) =
+      protocol-worlds.decides c (decidedBy (r .controllers c) s serial cause .state .last)
 
 -- a call is the protocol's, and one that is allowed there
 pub record Seen (S : Setting) (r : Run) (x : Call) : Type 0 where

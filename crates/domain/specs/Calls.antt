@@ -3,22 +3,20 @@
 use Prim.Native.Nat.{ℕ}
 use mathlib.Core.List.{List, [], _∷_}
 use Rattle.lists.specs.Bytes.{part}
-use Rattle.message.specs.Layout.{eventLength, shareLength, acknowledgementLength}
+use Rattle.message.specs.Writing.{lengthOf}
 use Rattle.switch.specs.States as switch
-use Rattle.switch.specs.Writing.{eventWritten, acknowledgementWritten}
 use Rattle.switch.specs.Calls as switch-calls
-use Rattle.switch.specs.Calls.{receives, raises, writesEvent, writesAcknowledgement}
+use Rattle.switch.specs.Calls.{receives, writes, manages, messageFor, messageWritten}
 use Rattle.switch.specs.declared.Switch.{Switch}
 use Rattle.controller.specs.States as controller
-use Rattle.controller.specs.Writing.{shareWritten}
+use Rattle.controller.specs.Writing.{shareFor, shareWritten}
 use Rattle.controller.specs.Calls as controller-calls
-use Rattle.controller.specs.Calls.{decides, writesShare}
+use Rattle.controller.specs.Calls.{writesShare}
 use Rattle.controller.specs.declared.Controller.{Controller}
 use Rattle.protocol.specs.Families.{upd}
 use Rattle.domain.specs.Settings.{Setting, playbook, switchKeys, controllerKeys}
 
--- a call at a switch, with bytes, with a cause, or with a controller, a frame and an offset; and one at a controller,
--- with bytes, with a switch, a serial and a cause, or with a switch, a frame and an offset
+-- a call at a switch, or at a controller, with what the caller brings
 pub data Call : Type 0 where
   atSwitch : ℕ → switch-calls.Call → Call
   atController : ℕ → controller-calls.Call → Call
@@ -35,18 +33,17 @@ pub record Run : Type 0 where
   pub controllers : ℕ → Controller
   pub log : List Done
 
--- what a call leaves in its frame where its message goes; nothing where it has no frame
+-- what a call leaves in its frame where its message goes; nothing where it has no frame, or nothing to write
 abbrev pub switchWrites : List ℕ → Switch → switch-calls.Call → List ℕ
-switchWrites keys s (writesEvent c frame at) = part eventLength at (eventWritten s keys c frame at .1)
-switchWrites keys s (writesAcknowledgement c frame at) =
-    part acknowledgementLength at (acknowledgementWritten s keys c frame at .1)
 switchWrites keys s (receives bytes) = []
-switchWrites keys s (raises cause) = []
+switchWrites keys s (writes kind c frame at) =
+    part (lengthOf (messageFor kind s c)) at (messageWritten kind s keys c frame at .1)
+switchWrites keys s (manages m) = []
 
 abbrev pub controllerWrites : List ℕ → Controller → controller-calls.Call → List ℕ
-controllerWrites keys c (writesShare s frame at) = part shareLength at (shareWritten c keys s frame at .1)
 controllerWrites keys c (controller-calls.receives bytes) = []
-controllerWrites keys c (decides s serial cause) = []
+controllerWrites keys c (writesShare s frame at) = part (lengthOf (shareFor c s)) at (shareWritten c keys s frame at .1)
+controllerWrites keys c (controller-calls.manages m) = []
 
 module _ (S : Setting) where
   -- fresh setups, and no call yet

@@ -13,7 +13,7 @@ use Rattle.message.specs.Reading.{decode}
 use Rattle.message.specs.declared.End.the-variants as ends
 use Rattle.message.specs.declared.Message.{Message}
 use Rattle.message.specs.declared.Message.the-variants.{Event, Share, Acknowledgement}
-use Rattle.switch.specs.Calls.{receives, raises, writesEvent, writesAcknowledgement}
+use Rattle.switch.specs.Calls.{Kind, receives, writes, manages}
 use Rattle.controller.specs.Calls.{decides, writesShare}
 use Rattle.controller.specs.Calls as controller
 use Rattle.protocol.specs.Runs.{run, Every}
@@ -26,15 +26,12 @@ Tagged key bytes = drop (length bytes - tagLength) bytes ≡ tagOf key (take (le
 
 -- a message written in the run so far, by a writing answered 0: by switch s for controller c, and by c for s
 pub data SwitchWrote (log : List Done) (s c : ℕ) (bytes : List ℕ) : Type 0 where
-  event : {frame : List ℕ} {at : ℕ}
-      → List·Memᴰ (record { call = atSwitch s (writesEvent c frame at); answer = 0; written = bytes }) log
-      → SwitchWrote log s c bytes
-  acknowledgement : {frame : List ℕ} {at : ℕ}
-      → List·Memᴰ (record { call = atSwitch s (writesAcknowledgement c frame at); answer = 0; written = bytes }) log
+  by-switch : {kind : Kind} {frame : List ℕ} {at : ℕ}
+      → List·Memᴰ (record { call = atSwitch s (writes kind c frame at); answer = 0; written = bytes }) log
       → SwitchWrote log s c bytes
 
 pub data ControllerWrote (log : List Done) (c s : ℕ) (bytes : List ℕ) : Type 0 where
-  share : {frame : List ℕ} {at : ℕ}
+  by-controller : {frame : List ℕ} {at : ℕ}
       → List·Memᴰ (record { call = atController c (writesShare s frame at); answer = 0; written = bytes }) log
       → ControllerWrote log c s bytes
 
@@ -49,10 +46,10 @@ pub data FromController (c s : ℕ) : Message → Type 0 where
 -- the decision that a call brought to controller c, if its answer passes a test; and all of these, the first one
 -- first
 abbrev pub decisionIn : (ℕ → Bool) → ℕ → ℕ → Call → List Decision
-decisionIn test c answer (atController i (decides s serial cause)) =
-    pick (eqb i c && test answer) (record { switch = s; serial = serial; cause = cause } ∷ []) []
 decisionIn test c answer (atController i (controller.receives bytes)) = []
 decisionIn test c answer (atController i (writesShare s frame at)) = []
+decisionIn test c answer (atController i (controller.manages (decides s serial cause))) =
+    pick (eqb i c && test answer) (record { switch = s; serial = serial; cause = cause } ∷ []) []
 decisionIn test c answer (atSwitch s x) = []
 
 unfoldable pub decisions : (ℕ → Bool) → ℕ → List Done → List Decision
@@ -82,14 +79,13 @@ module _ (S : Setting) where
   Unforged r (atSwitch s (receives bytes)) =
       (c : ℕ) → FromController c s (decode ends.Switch bytes) → Keeps S c → Tagged (S .key c s) bytes
       → ControllerWrote (r .log) c s bytes
-  Unforged r (atSwitch s (raises cause)) = Unit {0}
-  Unforged r (atSwitch s (writesEvent c frame at)) = Unit {0}
-  Unforged r (atSwitch s (writesAcknowledgement c frame at)) = Unit {0}
+  Unforged r (atSwitch s (writes kind c frame at)) = Unit {0}
+  Unforged r (atSwitch s (manages m)) = Unit {0}
   Unforged r (atController c (controller.receives bytes)) =
       (s : ℕ) → FromSwitch s c (decode ends.Controller bytes) → s < 16 → Tagged (S .key c s) bytes
       → SwitchWrote (r .log) s c bytes
-  Unforged r (atController c (decides s serial cause)) = Unit {0}
   Unforged r (atController c (writesShare s frame at)) = Unit {0}
+  Unforged r (atController c (controller.manages m)) = Unit {0}
 
   -- all premises on a list of calls: where they are, unforged tags, and decisions that are a beginning of the agreed
   -- list

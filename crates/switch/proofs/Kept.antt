@@ -23,16 +23,15 @@ use Rattle.flow.proofs.Kept.{table-ok, apply-table}
 use Rattle.switch.specs.Slots.{slotFor, emptySlot, slotEmpty, slotOk, emptied}
 use Rattle.switch.specs.States.{unchanged, inRange, fresh, setupOf, switchOk}
 use Rattle.switch.specs.Shares.{stored, applied}
-use Rattle.switch.specs.Raising.{withEvent, raisedBy}
+use Rattle.switch.specs.Raising.{raisedBy}
 use Rattle.switch.specs.Receiving.{receivedBy}
 use Rattle.switch.specs.Writing.{written}
-use Rattle.switch.specs.Calls.{Call, receives, raises, writesEvent, writesAcknowledgement, replyTo, after}
+use Rattle.switch.specs.Calls.{raises, Call, receives, writes, manages, replyTo, after}
 use Rattle.switch.specs.declared.Reply.{Reply}
 use Rattle.switch.specs.declared.Slot.{Slot}
-use Rattle.switch.specs.declared.Stepped.{Stepped}
 use Rattle.switch.specs.declared.Switch.{Switch}
 use Rattle.switch.proofs.Within.{within, obeys}
-use Rattle.switch.proofs.Moves.{Moves, event-only, share-stored, rule-applied, moves, numbers-made, after-keeps}
+use Rattle.switch.proofs.Moves.{Moves, shares-left, share-stored, rule-applied, moves, numbers-made, after-keeps}
 
 -- a setup: refused, or a state to which nothing has happened
 module _ (id n : ℕ) where
@@ -102,21 +101,16 @@ module _ (s : Switch) where
             (every-map slotEmpty slotEmpty (emptied number) (emptied-empty number) _ (w .unused));
       })
 
-  -- an event in place of the one raised before
-  pub event-kept : (e : Stepped) → switchOk s ≡ true → switchOk (withEvent s e .state) ≡ true
-  unfolding switchOk
-  event-kept e h = h
-
 module _ (keys : List ℕ) (s : Switch) where
   kept : {t : Switch} {ks : List ℕ} → Moves keys s t ks → switchOk s ≡ true → switchOk t ≡ true
-  kept (event-only e) h = event-kept s e h
+  kept (shares-left l) h = l .limits h
   kept (share-stored a few) h = stored-kept s _ _ _ h (a .known) (a .passes .above)
   kept (rule-applied {bytes} {c} {number} {rule} a) h =
       let held = stored-kept s c number rule h (a .known) (a .passes .above) in
       applied-kept (stored s c number rule) number rule held (a .passes .formed) (a .passes .room)
 
   names : {t : Switch} {ks : List ℕ} → Moves keys s t ks → (t .id ≡ s .id) × (t .n ≡ s .n)
-  names (event-only e) = (refl, refl)
+  names (shares-left l) = (l .id, l .n)
   names (share-stored a few) = (refl, refl)
   names (rule-applied a) = (refl, refl)
 
@@ -134,9 +128,8 @@ module _ (keys : List ℕ) (s : Switch) where
   pub past-refused : (x : Call) → switchOk s ≡ false → replyTo keys s x ≡ unchanged s 20
   unfolding receivedBy raisedBy written
   past-refused (receives bytes) h = refused _ _ 20 _ _ h
-  past-refused (raises cause) h = refused _ _ 20 _ _ h
-  past-refused (writesEvent c frame at) h = ap (λ (r : Reply × List ℕ). r .0) (refused _ _ 20 _ _ h)
-  past-refused (writesAcknowledgement c frame at) h = ap (λ (r : Reply × List ℕ). r .0) (refused _ _ 20 _ _ h)
+  past-refused (writes kind c frame at) h = ap (λ (r : Reply × List ℕ). r .0) (refused _ _ 20 _ _ h)
+  past-refused (manages (raises cause)) h = refused _ _ 20 _ _ h
 
 -- the same of lists of calls
 module _ (keys : List ℕ) (s : Switch) (xs : List Call) where

@@ -1,6 +1,5 @@
--- Every case that there is of a call: nothing but the event changes, a share is stored, or one is stored and its rule
+-- Every case that there is of a call: what shares move is left, a share is stored, or one is stored and its rule
 -- applied; each with the state afterwards and the numbers made. And what every call keeps, a list of calls keeps.
--- Assumes nothing.
 use mathlib.Core.Path.{_≡_, refl}
 use mathlib.Core.Bool.{true, false}
 use mathlib.Core.List.{List, [], _∷_}
@@ -16,12 +15,11 @@ use Rattle.flow.specs.declared.Rule.{Rule}
 use Rattle.message.proofs.Ends.{share-number}
 use Rattle.switch.specs.Slots.{isQuorum}
 use Rattle.switch.specs.Shares.{stored, applied}
-use Rattle.switch.specs.Raising.{nextEvent, withEvent, raisedBy}
-use Rattle.switch.specs.Writing.{eventFor, acknowledgementFor}
-use Rattle.switch.specs.Calls.{Call, receives, raises, writesEvent, writesAcknowledgement}
-use Rattle.switch.specs.Calls.{numberIn, replyTo, after}
+use Rattle.switch.specs.Raising.{nextEvent, raisedBy}
+use Rattle.switch.specs.States.{switchOk}
+use Rattle.switch.specs.Calls.{Managing, raises, Call, receives, writes, manages}
+use Rattle.switch.specs.Calls.{messageFor, isThere, managedBy, numberIn, replyTo, after}
 use Rattle.switch.specs.declared.Reply.{Reply}
-use Rattle.switch.specs.declared.Stepped.{Stepped}
 use Rattle.switch.specs.declared.Switch.{Switch}
 use Rattle.switch.proofs.Taken.{Arrives, Received, refused, repeated, held, made, received}
 use Rattle.switch.proofs.Sent.{written-state}
@@ -30,9 +28,27 @@ use Rattle.switch.proofs.Sent.{written-state}
 abbrev pub numberMade : ℕ → Call → List ℕ
 numberMade answer x = pick (eqb answer 1) (numberIn x) []
 
+-- what a call that brings no share leaves
+pub record Leaves (s t : Switch) : Type 0 where
+  pub id : t .id ≡ s .id
+  pub n : t .n ≡ s .n
+  pub last : t .last ≡ s .last
+  pub table : t .table ≡ s .table
+  pub slots : t .slots ≡ s .slots
+  pub limits : switchOk s ≡ true → switchOk t ≡ true
+
+pub leaves-all : (s : Switch) → Leaves s s
+leaves-all s = record { id = refl; n = refl; last = refl; table = refl; slots = refl; limits = λ h. h }
+
+pub managed-leaves : (s : Switch) (m : Managing) → Leaves s (managedBy s m .state)
+unfolding raisedBy switchOk
+managed-leaves s (raises cause) =
+    reply-keeps (λ (r : Reply). Leaves s (r .state)) _ _ _ (λ k. leaves-all s)
+    (λ y. record { id = refl; n = refl; last = refl; table = refl; slots = refl; limits = λ h. h })
+
 -- what a call does to a state, and the numbers that it makes
 pub data Moves (keys : List ℕ) (s : Switch) : Switch → List ℕ → Type 0 where
-  event-only : (e : Stepped) → Moves keys s (withEvent s e .state) []
+  shares-left : {t : Switch} → Leaves s t → Moves keys s t []
   share-stored : {bytes : List ℕ} {c number : ℕ} {rule : Rule} → Arrives s keys bytes c number rule
       → isQuorum (s .n) number rule (stored s c number rule .slots) ≡ false
       → Moves keys s (stored s c number rule) []
@@ -42,7 +58,7 @@ pub data Moves (keys : List ℕ) (s : Switch) : Switch → List ℕ → Type 0 w
 module _ (keys : List ℕ) (s : Switch) where
   -- nothing changes, and bytes are received
   stays : Moves keys s s []
-  stays = event-only (record { answer = 0; raised = s .raised })
+  stays = shares-left (leaves-all s)
 
   reception : {bytes : List ℕ} {k : ℕ} {t : Switch} → Received s keys bytes k t
       → Moves keys s t (numberMade k (receives bytes))
@@ -53,20 +69,16 @@ module _ (keys : List ℕ) (s : Switch) where
 
   -- every call; only one that brings bytes makes a number
   pub moves : (x : Call) → Moves keys s (replyTo keys s x .state) (numberMade (replyTo keys s x .answer) x)
-  unfolding raisedBy
   moves (receives bytes) = reception (received s keys bytes)
-  moves (raises cause) =
-      rw pick-same (reply-keeps (λ (r : Reply). Moves keys s (r .state) []) _ _ _ (λ k. stays)
-      (λ h. event-only (nextEvent (s .raised) cause)))
-  moves (writesEvent c frame at) = rw (pick-same, written-state s keys c (eventFor s c) _ frame at) stays
-  moves (writesAcknowledgement c frame at) =
-      rw (pick-same, written-state s keys c (acknowledgementFor s c) true frame at) stays
+  moves (writes kind c frame at) =
+      rw (pick-same, written-state s keys c (messageFor kind s c) (isThere kind s) frame at) stays
+  moves (manages m) = rw pick-same (shares-left (managed-leaves s m))
 
   -- the numbers that it makes rise from the last applied one, which is then the last of them
   pub numbers-made : {t : Switch} {ks : List ℕ} → Moves keys s t ks
       → (risingFrom (s .last) ks ≡ true) × (t .last ≡ lastOf (s .last) ks)
   unfolding risingFrom lastOf
-  numbers-made (event-only e) = (refl, refl)
+  numbers-made (shares-left l) = (refl, l .last)
   numbers-made (share-stored a few) = (refl, refl)
   numbers-made (rule-applied a) = (and-join (ltb (s .last) _) true (lt-ltb _ _ (a .passes .above)) refl, refl)
 

@@ -29,7 +29,7 @@ use Rattle.switch.specs.declared.Slot.{Slot}
 use Rattle.switch.specs.declared.Switch.{Switch}
 use Rattle.switch.proofs.Within.{within}
 use Rattle.switch.proofs.Taken.{Arrives, arrival}
-use Rattle.switch.proofs.Moves.{Moves, event-only, share-stored, rule-applied}
+use Rattle.switch.proofs.Moves.{Moves, shares-left, share-stored, rule-applied}
 use Rattle.switch.proofs.Moves.{numberMade, moves, numbers-made, after-keeps}
 use Rattle.switch.proofs.Effects.{answered-1}
 use Rattle.switch.proofs.Agreement.{holds-sound, holds-mine, agreeing-count, agreeing-controllers}
@@ -120,7 +120,10 @@ module _ (s : Switch) (quiet : Quiet s) (c number : ℕ) (rule : Rule) where
 
 module _ (keys : List ℕ) where
   kept-quiet : {s t : Switch} {ks : List ℕ} → Moves keys s t ks → Quiet s → Quiet t
-  kept-quiet (event-only e) quiet = record { sixteen = quiet .sixteen; short = quiet .short }
+  kept-quiet (shares-left l) quiet = record {
+    sixteen = rw (l .slots) (quiet .sixteen);
+    short = λ k r above. rw (l .slots, l .n) (quiet .short k r (rw (l .last) at above));
+  }
   kept-quiet {s} (share-stored {bytes} {c} {number} {rule} a few) quiet =
       stored-quiet s quiet c number rule (leb-false _ _ few)
   kept-quiet {s} (rule-applied {bytes} {c} {number} {rule} a) quiet =

@@ -1,7 +1,7 @@
 -- What a slot holds was sent. After every list of calls from a setup each slot is empty, or its number and rule came in
 -- a share from its controller, for this switch, with the tag of that controller's key. So a rule is applied only where
 -- a quorum of different controllers each sent it, tagged with its own key. Assumes nothing.
-use mathlib.Core.Path.{_≡_, refl}
+use mathlib.Core.Path.{_≡_, refl, ap}
 use mathlib.Core.Bool.{true}
 use mathlib.Core.List.{List, [], _∷_, _++_, List·Memᴰ, List·Memᴰ·head, List·Memᴰ·tail}
 use mathlib.Core.List.{Memᴰ·append-left, Memᴰ·append-right}
@@ -23,13 +23,13 @@ use Rattle.switch.specs.Slots.{quorumOf, slotFor, emptySlot, controllers
 use Rattle.switch.specs.States.{setupOf}
 use Rattle.switch.specs.Shares.{slotOf, stored}
 use Rattle.switch.specs.Receiving.{receivedBy}
-use Rattle.switch.specs.Raising.{raisedBy}
-use Rattle.switch.specs.Writing.{eventFor, acknowledgementFor}
-use Rattle.switch.specs.Calls.{Call, receives, raises, writesEvent, writesAcknowledgement, replyTo, after}
+use Rattle.switch.specs.Calls.{Call, receives, writes, manages, messageFor, isThere, replyTo, after}
 use Rattle.switch.specs.declared.Reply.{Reply}
+use Rattle.switch.specs.declared.Slot.{Slot}
 use Rattle.switch.specs.declared.Switch.{Switch}
 use Rattle.switch.proofs.Taken.{Arrives, Received, refused, repeated, held, made, received}
 use Rattle.switch.proofs.Sent.{written-state}
+use Rattle.switch.proofs.Moves.{Leaves, managed-leaves}
 use Rattle.switch.proofs.Effects.{emptied-at, answered-1}
 use Rattle.switch.proofs.Agreement.{agreement}
 
@@ -93,14 +93,16 @@ module _ (keys : List ℕ) (calls : List Call) where
         by-bool (leb (getD slots i emptySlot .number) number)
         (λ e. rw (at, e) (λ some. absurd (omega arith))) (λ e. rw (at, e) (stored-came there a i))
 
+    leaves-came : {t : Switch} → Leaves s t → SlotsCame keys calls t
+    leaves-came {t} l c some =
+        let same : slotOf t c ≡ slotOf s c = ap (λ (slots : List Slot). getD slots c emptySlot) (l .slots) in
+        rw (same, l .n, l .id) (all c (rw same at some))
+
     pub call-came : (x : Call) → List·Memᴰ x calls → SlotsCame keys calls (replyTo keys s x .state)
-    unfolding raisedBy
     call-came (receives bytes) there = reception-came there (received s keys bytes)
-    call-came (raises cause) there =
-        reply-keeps (λ (r : Reply). SlotsCame keys calls (r .state)) _ _ _ (λ k. all) (λ h. all)
-    call-came (writesEvent c frame at) there = rw (written-state s keys c (eventFor s c) _ frame at) all
-    call-came (writesAcknowledgement c frame at) there =
-        rw (written-state s keys c (acknowledgementFor s c) true frame at) all
+    call-came (writes kind c frame at) there =
+        rw (written-state s keys c (messageFor kind s c) (isThere kind s) frame at) all
+    call-came (manages m) there = leaves-came (managed-leaves s m)
 
     -- what is answered 1 was applied by a quorum
     pub by-quorum : (bytes : List ℕ) → List·Memᴰ (receives bytes) calls → receivedBy s keys bytes .answer ≡ 1

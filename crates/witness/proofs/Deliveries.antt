@@ -10,8 +10,8 @@ use Rattle.message.specs.Reading.{decode}
 use Rattle.message.specs.declared.End.the-variants as ends
 use Rattle.message.specs.declared.Message.{Message}
 use Rattle.message.specs.declared.Message.the-variants.{Event, Share, Acknowledgement, Refused}
-use Rattle.switch.specs.Calls.{receives, raises, writesEvent, writesAcknowledgement}
-use Rattle.controller.specs.Calls.{decides, writesShare}
+use Rattle.switch.specs.Calls.{receives, writes, manages}
+use Rattle.controller.specs.Calls.{writesShare}
 use Rattle.controller.specs.Calls as controller
 use Rattle.protocol.specs.Runs.{Every}
 use Rattle.domain.specs.Settings.{Setting, Keeps}
@@ -23,12 +23,11 @@ use Rattle.witness.specs.Deliveries.{Honest}
 module _ (S : Setting) where
   pub honest-call : (r : Run) (x : Call) → Honest S r x → Unforged S r x
   honest-call r (atSwitch s (receives bytes)) h = λ c from keeps tagged. h c from keeps
-  honest-call r (atSwitch s (raises cause)) h = tt
-  honest-call r (atSwitch s (writesEvent c frame at)) h = tt
-  honest-call r (atSwitch s (writesAcknowledgement c frame at)) h = tt
+  honest-call r (atSwitch s (writes kind c frame at)) h = tt
+  honest-call r (atSwitch s (manages m)) h = tt
   honest-call r (atController c (controller.receives bytes)) h = λ s from known tagged. h s from known
-  honest-call r (atController c (decides s serial cause)) h = tt
   honest-call r (atController c (writesShare s frame at)) h = tt
+  honest-call r (atController c (controller.manages m)) h = tt
 
   -- the tag premise
   pub honest-run : (r : Run) (calls : List Call) → Every (step S) (Honest S) r calls

@@ -155,14 +155,14 @@ fair = record {
               (
                 tt,
                 (
-                  written 7 1 (premises.share (there 7 0 (omega arith))),
+                  written 7 1 (premises.by-controller (there 7 0 (omega arith))),
                   (
-                    written 8 1 (premises.share (there 8 1 (omega arith))),
+                    written 8 1 (premises.by-controller (there 8 1 (omega arith))),
                     (
                       tt,
                       (
-                        written 10 2 (premises.share (there 10 0 (omega arith))),
-                        (written 11 0 (premises.share (there 11 5 (omega arith))), tt),
+                        written 10 2 (premises.by-controller (there 10 0 (omega arith))),
+                        (written 11 0 (premises.by-controller (there 11 5 (omega arith))), tt),
                       ),
                     ),
                   ),

@@ -21,6 +21,7 @@ use Rattle.flow.specs.Tables.{tableOk}
 use Rattle.flow.specs.Changes.{setEntry}
 use Rattle.message.specs.Keys.{keyLength}
 use Rattle.message.specs.Layout.{shareLength}
+use Rattle.message.specs.Writing.{lengthOf}
 use Rattle.message.specs.declared.Message.the-variants.{Share}
 use Rattle.message.proofs.Inverse.{decode-encode, encode-sealed}
 use Rattle.playbook.specs.Books.{keysOn, lastCount, countLast}
@@ -38,7 +39,7 @@ use Rattle.controller.specs.Changes.{meaning, numbersOf, numbered, numberedFrom
 use Rattle.controller.specs.States as controller
 use Rattle.controller.specs.States.{unchanged, controllerOk}
 use Rattle.controller.specs.Decisions.{givenBy, heldAfter, decided, decidedBy}
-use Rattle.controller.specs.Writing.{shareWritten}
+use Rattle.controller.specs.Writing.{shareFor, shareWritten}
 use Rattle.controller.specs.declared.Controller.{Controller}
 use Rattle.controller.specs.declared.Reply.{Reply}
 use Rattle.controller.specs.declared.Undone.{Undone}
@@ -132,7 +133,8 @@ module _ (c : ℕ) where
         (rw undone (lowest-found changes rising (omega arith)))
 
     pub writes-share :
-        part shareLength 0 (shareWritten aware (controllerKeys evening c) 2 (replicate shareLength 0) 0 .1)
+        part (lengthOf (shareFor aware 2)) 0
+        (shareWritten aware (controllerKeys evening c) 2 (replicate shareLength 0) 0 .1)
         ≡ share c 2 1 3
     writes-share =
         let key = joined-at (evening .key c) (valid .keys c) 16 2 (omega arith) in

@@ -28,8 +28,8 @@ use Rattle.witness.proofs.Wrote.{Named, named-after, start-named}
 abbrev pub NoDecision : Call → Type 0
 NoDecision (atSwitch s x) = Unit {0}
 NoDecision (atController c (controller-calls.receives bytes)) = Unit {0}
-NoDecision (atController c (controller-calls.decides s serial cause)) = ⊥
 NoDecision (atController c (writesShare s frame at)) = Unit {0}
+NoDecision (atController c (controller-calls.manages (controller-calls.decides s serial cause))) = ⊥
 
 -- where a call is does not depend on what came before, and can be tested
 module _ (S : Setting) where
@@ -70,8 +70,8 @@ module _ (S : Setting) (v : Valid S) where
   unfolding step decisions
   begun-on r (atSwitch s x) h b c keeps = rw append-nil (b c keeps)
   begun-on r (atController i (controller-calls.receives bytes)) h b c keeps = rw append-nil (b c keeps)
-  begun-on r (atController i (controller-calls.decides s serial cause)) h b c keeps = absurd h
   begun-on r (atController i (writesShare s frame at)) h b c keeps = rw append-nil (b c keeps)
+  begun-on r (atController i (controller-calls.manages (controller-calls.decides s serial cause))) h b c keeps = absurd h
 
   -- one call more
   pub fair-call : (r : Run) (x : Call) → InRun S r x → Unforged S r x → NoDecision x → Begun S r

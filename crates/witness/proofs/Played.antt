@@ -1,6 +1,6 @@
 -- From wherever a run within the premises has come to, the rounds as lists of calls are full rounds, and with them the
 -- run goes on within the premises; so it can always be brought to its end. Assumes nothing.
-use mathlib.Core.Path.{_≡_, refl, sym, ap₂, subst}
+use mathlib.Core.Path.{_≡_, refl, sym, ap, ap₂, _∙_, subst}
 use mathlib.Core.Bool.{true, not, _&&_}
 use mathlib.Core.List.{List, [], _∷_, _++_, append-nil, append-assoc, List·Memᴰ, List·Memᴰ·head, List·Memᴰ·tail}
 use Prim.Native.Nat.{ℕ, zero, suc, _<_}
@@ -11,15 +11,19 @@ use lib.Seq.{take-all}
 use borrow.Author.Tests.{eqb-true, eq-eqb, not-true}
 use Rattle.answer.proofs.Bools.{by-eq, and-parts, pick-keeps}
 use Rattle.lists.specs.Kinds.{isAmong}
+use Rattle.lists.specs.Bytes.{part}
 use Rattle.message.specs.Layout.{shareLength, acknowledgementLength}
-use Rattle.switch.specs.Calls.{receives, writesAcknowledgement}
+use Rattle.message.specs.Writing.{lengthOf}
+use Rattle.switch.specs.Calls.{acknowledgement, receives, writes}
 use Rattle.switch.proofs.Sent.{acknowledgement-sent}
 use Rattle.controller.specs.Calls.{writesShare}
 use Rattle.controller.specs.Calls as controller
+use Rattle.controller.specs.Writing.{shareOf, shareFor}
 use Rattle.controller.specs.declared.Undone.{Undone}
+use Rattle.controller.proofs.Sent.{allowed}
 use Rattle.protocol.specs.Runs.{run, Sometime, Rounds}
 use Rattle.protocol.proofs.Runs.{run-append, now, later}
-use Rattle.domain.specs.Settings.{Decision, Setting, Valid, playbook, Keeps, switchKeys}
+use Rattle.domain.specs.Settings.{Decision, Setting, Valid, playbook, Keeps, switchKeys, controllerKeys}
 use Rattle.domain.specs.Calls.{Call, atSwitch, atController, Run, start, step}
 use Rattle.domain.specs.Premises.{SwitchWrote, ControllerWrote, taken, InRun, Unforged, Premises}
 use Rattle.domain.specs.Premises as premises
@@ -34,7 +38,7 @@ use Rattle.domain.proofs.Theorem.{demand3}
 use Rattle.witness.specs.Deliveries.{Honest}
 use Rattle.witness.specs.Played.{tells, shares, forEach, firstHalf, secondHalf, round, rounds}
 use Rattle.witness.proofs.Deliveries.{honest-call, share-arrives, switch-arrives}
-use Rattle.witness.proofs.Wrote.{entry, logged, share-wrote, acknowledgement-wrote}
+use Rattle.witness.proofs.Wrote.{entry, logged, share-wrote, switch-wrote}
 use Rattle.witness.proofs.Extended.{NoDecision, fair-join, fair-call, premises-join}
 
 module _ (S : Setting) (v : Valid S) where
@@ -78,7 +82,7 @@ module _ (S : Setting) (v : Valid S) where
   module _ (r : Run) (R : Reached S r) (b : Begun S r) (s c : ℕ) (l : s < 16) (keeps : Keeps S c) where
     -- an acknowledgement that is written and arrives
     abbrev acknowledging : Call
-    acknowledging = atSwitch s (writesAcknowledgement c (replicate acknowledgementLength 0) 0)
+    acknowledging = atSwitch s (writes acknowledgement c (replicate acknowledgementLength 0) 0)
 
     acknowledgement-arrives : Fair S v r
         (acknowledging ∷ atController c (controller.receives (acknowledgementNow S r s c .1)) ∷ [])
@@ -93,8 +97,8 @@ module _ (S : Setting) (v : Valid S) where
         let kept = ap₂ (entry acknowledging) none whole in
         let next = step S r acknowledging in
         let wrote : SwitchWrote (next .log) s c bytes =
-        rw (logged S r acknowledging) (premises.acknowledgement (List·Memᴰ·head (sym kept))) in
-        let named = rw whole at (acknowledgement-wrote S r R (replicate acknowledgementLength 0) 0 s c l none) in
+        rw (logged S r acknowledging) (premises.by-switch {kind = acknowledgement} (List·Memᴰ·head (sym kept))) in
+        let named = rw whole at (switch-wrote S r R (replicate acknowledgementLength 0) 0 acknowledgement s c l none) in
         at-once r b acknowledging (atController c (controller.receives bytes)) l tt tt keeps
         (switch-arrives S next s c bytes named wrote) tt
 
@@ -109,11 +113,15 @@ module _ (S : Setting) (v : Valid S) where
         let begins = b c keeps in
         let sent = share-there S v r c _ (R .controllers c keeps) (ranged S v) (begins .0) (begins .1) s
         (replicate shareLength 0) 0 none in
-        let whole : take shareLength bytes ≡ bytes = take-all shareLength bytes (omega (arith, sent .long)) in
+        let t = r .controllers c in
+        let a = allowed t (controllerKeys S c) s (replicate shareLength 0) 0 none in
+        let whole : part (lengthOf (shareFor t s)) 0 bytes ≡ bytes =
+        ap (λ x. part (lengthOf (shareOf (t .id) s x)) 0 bytes) (a .ready)
+        ∙ take-all shareLength bytes (omega (arith, sent .long)) in
         let kept = ap₂ (entry sharing) none whole in
         let next = step S r sharing in
         let wrote : ControllerWrote (next .log) c s bytes =
-        rw (logged S r sharing) (premises.share (List·Memᴰ·head (sym kept))) in
+        rw (logged S r sharing) (premises.by-controller (List·Memᴰ·head (sym kept))) in
         let named = rw whole at (share-wrote S r R (replicate shareLength 0) 0 c s keeps none) in
         at-once r b sharing (atSwitch s (receives bytes)) keeps tt tt l (share-arrives S next s c bytes named wrote) tt
 

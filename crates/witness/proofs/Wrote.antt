@@ -1,6 +1,6 @@
 -- What an end wrote names that end and its receiver, be the numbers in it in range or not; so it does in the log of
 -- every run within the premises. Assumes nothing.
-use mathlib.Core.Path.{_≡_, refl, sym, ap, _∙_}
+use mathlib.Core.Path.{_≡_, refl, sym, ap, _∙_, subst}
 use mathlib.Core.List.{List, [], _∷_, List·Memᴰ·cases-cons, List·Memᴰ·not-nil}
 use mathlib.Core.Logic.{⊎-elim}
 use Prim.Native.Nat.{ℕ, suc, _+_, _<_}
@@ -10,7 +10,6 @@ use lib.Seq.{drop-drop}
 use Rattle.flow.specs.declared.Rule.{Rule}
 use Rattle.lists.specs.Bytes.{part}
 use Rattle.message.specs.Keys.{keyAt}
-use Rattle.message.specs.Layout.{eventLength, shareLength, acknowledgementLength}
 use Rattle.message.specs.Reading.{decode}
 use Rattle.message.specs.Writing.{encode}
 use Rattle.message.specs.declared.End.the-variants as ends
@@ -18,8 +17,8 @@ use Rattle.message.specs.declared.Message.the-variants.{Event, Share, Acknowled
 use Rattle.message.proofs.Ends.{decode-event, decode-share, decode-acknowledgement}
 use Rattle.message.proofs.Lengths.{encode-length}
 use Rattle.switch.specs.Calls as switch-calls
-use Rattle.switch.specs.Calls.{writesEvent, writesAcknowledgement}
-use Rattle.switch.specs.Writing.{eventFor, acknowledgementFor, eventWritten, acknowledgementWritten}
+use Rattle.switch.specs.Calls.{Kind, event, acknowledgement, writes, messageFor, isThere, messageWritten}
+use Rattle.switch.specs.declared.Switch.{Switch}
 use Rattle.switch.proofs.Sent.{sent-bytes}
 use Rattle.controller.specs.Calls as controller-calls
 use Rattle.controller.specs.Calls.{writesShare}
@@ -45,6 +44,11 @@ module _ (key : List ℕ) where
   acknowledgement-named : (s c k : ℕ) → FromSwitch s c (decode ends.Controller (encode key (Acknowledgement s c k)))
   acknowledgement-named s c k =
       rw (decode-acknowledgement _ (encode-length key (Acknowledgement s c k)) refl) premises.acknowledgement
+
+  message-named : (kind : Kind) (t : Switch) (c : ℕ)
+      → FromSwitch (t .id) c (decode ends.Controller (encode key (messageFor kind t c)))
+  message-named event t c = event-named (t .id) c (t .raised .serial) (t .raised .cause)
+  message-named acknowledgement t c = acknowledgement-named (t .id) c (t .last)
 
 -- what a log keeps of a call
 abbrev pub entry : Call → ℕ → List ℕ → Done
@@ -90,46 +94,30 @@ module _ (S : Setting) where
     -- a writing answered 0
     pub share-wrote : (c s : ℕ) → Keeps S c
         → shareWritten (r .controllers c) (controllerKeys S c) s frame at .0 .answer ≡ 0
-        → FromController c s
-        (decode ends.Switch (part shareLength at (shareWritten (r .controllers c) (controllerKeys S c) s frame at .1)))
+        → FromController c s (decode ends.Switch
+        (controllerWrites (controllerKeys S c) (r .controllers c) (writesShare s frame at)))
     share-wrote c s keeps e =
         let t = r .controllers c in
         let a = allowed t (controllerKeys S c) s frame at e in
         let u = a .change in
         let key = keyAt (controllerKeys S c) s in
-        let is : part shareLength at (shareWritten t (controllerKeys S c) s frame at .1)
+        let is : controllerWrites (controllerKeys S c) t (writesShare s frame at)
         ≡ encode key (Share c s (u .number) (u .rule)) =
         share-bytes t (controllerKeys S c) s frame at e
         ∙ ap (λ x. encode key (shareOf (t .id) s x)) (a .ready)
         ∙ ap (λ (i : ℕ). encode key (Share i s (u .number) (u .rule))) (R .controllers c keeps .id) in
         rw is (share-named key c s (u .number) (u .rule))
 
-    pub event-wrote : (s c : ℕ) → s < 16 → eventWritten (r .switches s) (switchKeys S s) c frame at .0 .answer ≡ 0
-        → FromSwitch s c
-        (decode ends.Controller (part eventLength at (eventWritten (r .switches s) (switchKeys S s) c frame at .1)))
-    event-wrote s c l e =
+    pub switch-wrote : (kind : Kind) (s c : ℕ) → s < 16
+        → messageWritten kind (r .switches s) (switchKeys S s) c frame at .0 .answer ≡ 0
+        → FromSwitch s c (decode ends.Controller
+        (switchWrites (switchKeys S s) (r .switches s) (writes kind c frame at)))
+    switch-wrote kind s c l e =
         let t = r .switches s in
         let key = keyAt (switchKeys S s) c in
-        let event = t .raised in
-        let is : part eventLength at (eventWritten t (switchKeys S s) c frame at .1)
-        ≡ encode key (Event s c (event .serial) (event .cause)) =
-        sent-bytes t (switchKeys S s) c (eventFor t c) _ frame at e
-        ∙ ap (λ (i : ℕ). encode key (Event i c (event .serial) (event .cause))) (R .switches s l .id) in
-        rw is (event-named key s c (event .serial) (event .cause))
-
-    pub acknowledgement-wrote : (s c : ℕ) → s < 16
-        → acknowledgementWritten (r .switches s) (switchKeys S s) c frame at .0 .answer ≡ 0
-        → FromSwitch s c
-        (decode ends.Controller
-        (part acknowledgementLength at (acknowledgementWritten (r .switches s) (switchKeys S s) c frame at .1)))
-    acknowledgement-wrote s c l e =
-        let t = r .switches s in
-        let key = keyAt (switchKeys S s) c in
-        let is : part acknowledgementLength at (acknowledgementWritten t (switchKeys S s) c frame at .1)
-        ≡ encode key (Acknowledgement s c (t .last)) =
-        sent-bytes t (switchKeys S s) c (acknowledgementFor t c) _ frame at e
-        ∙ ap (λ (i : ℕ). encode key (Acknowledgement i c (t .last))) (R .switches s l .id) in
-        rw is (acknowledgement-named key s c (t .last))
+        rw (sent-bytes t (switchKeys S s) c (messageFor kind t c) (isThere kind t) frame at e)
+        (subst (λ (i : ℕ). FromSwitch i c (decode ends.Controller (encode key (messageFor kind t c)))) (R .switches s l .id)
+        (message-named key kind t c))
 
   module _ (r : Run) (R : Reached S r) where
     -- an entry of the log that is the latest call's, by the call that it names
@@ -142,35 +130,29 @@ module _ (S : Setting) where
 
     controller-more : Named (r .log) → (x : Call) (c s : ℕ) (bytes : List ℕ) → Keeps S c
         → ControllerWrote (latest r x ∷ r .log) c s bytes → FromController c s (decode ends.Switch bytes)
-    controller-more named x c s bytes keeps (premises.share {frame} {at} h) =
+    controller-more named x c s bytes keeps (premises.by-controller {frame} {at} h) =
         ⊎-elim
         (λ e. let here = latest-is x (atController c (writesShare s frame at)) bytes e in
         rw (here .1) (share-wrote r R frame at c s keeps (here .0)))
-        (λ t. named .shares c s bytes keeps (premises.share t)) (List·Memᴰ·cases-cons h)
+        (λ t. named .shares c s bytes keeps (premises.by-controller t)) (List·Memᴰ·cases-cons h)
 
     switch-more : Named (r .log) → (x : Call) (s c : ℕ) (bytes : List ℕ) → s < 16
         → SwitchWrote (latest r x ∷ r .log) s c bytes → FromSwitch s c (decode ends.Controller bytes)
-    switch-more named x s c bytes l (premises.event {frame} {at} h) =
+    switch-more named x s c bytes l (premises.by-switch {kind} {frame} {at} h) =
         ⊎-elim
-        (λ e. let here = latest-is x (atSwitch s (writesEvent c frame at)) bytes e in
-        rw (here .1) (event-wrote r R frame at s c l (here .0)))
-        (λ t. named .switches s c bytes l (premises.event t)) (List·Memᴰ·cases-cons h)
-    switch-more named x s c bytes l (premises.acknowledgement {frame} {at} h) =
-        ⊎-elim
-        (λ e. let here = latest-is x (atSwitch s (writesAcknowledgement c frame at)) bytes e in
-        rw (here .1) (acknowledgement-wrote r R frame at s c l (here .0)))
-        (λ t. named .switches s c bytes l (premises.acknowledgement t)) (List·Memᴰ·cases-cons h)
+        (λ e. let here = latest-is x (atSwitch s (writes kind c frame at)) bytes e in
+        rw (here .1) (switch-wrote r R frame at kind s c l (here .0)))
+        (λ t. named .switches s c bytes l (premises.by-switch t)) (List·Memᴰ·cases-cons h)
 
     pub named-after : Named (r .log) → (x : Call) → Named (step S r x .log)
     named-after named x =
         rw (logged r x) (record { shares = controller-more named x; switches = switch-more named x })
 
   none-wrote : {c s : ℕ} {bytes : List ℕ} → ControllerWrote [] c s bytes → ⊥
-  none-wrote (premises.share h) = List·Memᴰ·not-nil h
+  none-wrote (premises.by-controller h) = List·Memᴰ·not-nil h
 
   none-said : {s c : ℕ} {bytes : List ℕ} → SwitchWrote [] s c bytes → ⊥
-  none-said (premises.event h) = List·Memᴰ·not-nil h
-  none-said (premises.acknowledgement h) = List·Memᴰ·not-nil h
+  none-said (premises.by-switch h) = List·Memᴰ·not-nil h
 
   pub start-named : Named (start S .log)
   start-named = record {

@@ -3,8 +3,8 @@
 use Prim.Native.Nat.{ℕ, _<_}
 use Rattle.message.specs.Reading.{decode}
 use Rattle.message.specs.declared.End.the-variants as ends
-use Rattle.switch.specs.Calls.{receives, raises, writesEvent, writesAcknowledgement}
-use Rattle.controller.specs.Calls.{decides, writesShare}
+use Rattle.switch.specs.Calls.{receives, writes, manages}
+use Rattle.controller.specs.Calls.{writesShare}
 use Rattle.controller.specs.Calls as controller
 use Rattle.domain.specs.Settings.{Setting, Keeps}
 use Rattle.domain.specs.Calls.{Call, atSwitch, atController, Run}
@@ -15,10 +15,9 @@ use Rattle.domain.specs.Premises.{SwitchWrote, ControllerWrote, FromSwitch, Fro
 abbrev pub Honest : Setting → Run → Call → Type 0
 Honest S r (atSwitch s (receives bytes)) =
     (c : ℕ) → FromController c s (decode ends.Switch bytes) → Keeps S c → ControllerWrote (r .log) c s bytes
-Honest S r (atSwitch s (raises cause)) = Unit {0}
-Honest S r (atSwitch s (writesEvent c frame at)) = Unit {0}
-Honest S r (atSwitch s (writesAcknowledgement c frame at)) = Unit {0}
+Honest S r (atSwitch s (writes kind c frame at)) = Unit {0}
+Honest S r (atSwitch s (manages m)) = Unit {0}
 Honest S r (atController c (controller.receives bytes)) =
     (s : ℕ) → FromSwitch s c (decode ends.Controller bytes) → s < 16 → SwitchWrote (r .log) s c bytes
-Honest S r (atController c (decides s serial cause)) = Unit {0}
 Honest S r (atController c (writesShare s frame at)) = Unit {0}
+Honest S r (atController c (controller.manages m)) = Unit {0}

@@ -11,7 +11,7 @@ use Rattle.message.specs.Layout.{shareLength}
 use Rattle.message.specs.Writing.{encode}
 use Rattle.message.specs.declared.Message.the-variants.{Share}
 use Rattle.switch.specs.Calls.{receives}
-use Rattle.controller.specs.Calls.{decides, writesShare}
+use Rattle.controller.specs.Calls.{decides, writesShare, manages}
 use Rattle.domain.specs.Settings.{Decision, Setting}
 use Rattle.domain.specs.Calls.{Call, atSwitch, atController}
 
@@ -42,7 +42,7 @@ share c s k port = encode (evening .key c s) (Share c s k (byPort port))
 
 -- controller c takes the decision; it writes its share for switch 2; and a share arrives
 abbrev pub agrees : ℕ → Call
-agrees c = atController c (decides 5 1 1)
+agrees c = atController c (manages (decides 5 1 1))
 
 abbrev pub writes : ℕ → Call
 writes c = atController c (writesShare 2 (replicate shareLength 0) 0)

@@ -7,7 +7,7 @@ use lib.Dec.{eqb}
 use lib.ListN.{replicate}
 use Rattle.answer.specs.Ask.{pick}
 use Rattle.message.specs.Layout.{shareLength, acknowledgementLength}
-use Rattle.switch.specs.Calls.{receives, writesAcknowledgement}
+use Rattle.switch.specs.Calls.{acknowledgement, receives, writes}
 use Rattle.controller.specs.Calls.{writesShare}
 use Rattle.controller.specs.Calls as controller
 use Rattle.protocol.specs.Runs.{run}
@@ -20,7 +20,7 @@ module _ (S : Setting) where
   abbrev pub tells : ℕ → Run → ℕ → List Call
   tells s r c =
       pick (S .strays c) []
-      (atSwitch s (writesAcknowledgement c (replicate acknowledgementLength 0) 0)
+      (atSwitch s (writes acknowledgement c (replicate acknowledgementLength 0) 0)
       ∷ atController c (controller.receives (acknowledgementNow S r s c .1)) ∷ [])
 
   -- c, where it keeps the rules, writes its share for s, if it has one, and it arrives
