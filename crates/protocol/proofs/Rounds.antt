@@ -19,7 +19,7 @@ use Rattle.protocol.specs.Ends.{shareQuestions, taken, takeShare}
 use Rattle.protocol.specs.Worlds.{share, World, Call, decides, writesShare, takesShare}
 use Rattle.protocol.specs.Worlds.{writesAcknowledgement, takesAcknowledgement, other}
 use Rattle.protocol.specs.Worlds.{atSwitch, step, Agreed, Ready, Allowed}
-use Rattle.protocol.specs.Claims.{Laws, numbers, Round, Roomy, isUnmade, unmade}
+use Rattle.protocol.specs.Claims.{Laws, numbers, Turn, Round, Roomy, isUnmade, unmade}
 use Rattle.protocol.proofs.Families.{upd-same, upd-other, upd-at, count-mono, count-not, count-zero, lowest}
 use Rattle.protocol.proofs.Families.{count-less}
 use Rattle.protocol.proofs.Runs.{run-append, every-append, run-keeps, Keeps, reached, sometime}
@@ -28,7 +28,7 @@ use Rattle.protocol.proofs.Steps.{acknowledged-at, emptied-at, Passes, 
 use Rattle.protocol.proofs.Steps.{share-cases}
 use Rattle.protocol.proofs.Kept.{call-kept, run-kept}
 use Rattle.protocol.proofs.Orders.{lawful-agreed}
-use Rattle.protocol.proofs.Growing.{Grown, grown-again, call-grows, run-grows}
+use Rattle.protocol.proofs.Growing.{Grown, call-grows, run-grows}
 
 module _ {Content Table : Type 0} (D : Domain Content Table) where
   -- a share that passes its questions is taken
@@ -248,39 +248,51 @@ module _ {Content Table : Type 0} (D : Domain Content Table) where
             (λ low. omega arith))
 
     -- a round makes an agreed change where all lower ones are made and its number is given everywhere
-    module _ (w : World Content Table) (I : Invariant D w) (first second : List (Call Content))
-        (a : Every (step D) (Allowed D) w first) (b : Every (step D) (Allowed D) (run (step D) w first) second)
-        (round : Round D w first second) where
-      abbrev middle : World Content Table
-      middle = run (step D) w first
-
+    module _ (w : World Content Table) (I : Invariant D w) (calls : List (Call Content))
+        (a : Every (step D) (Allowed D) w calls) (round : Round D w calls) where
       abbrev end : World Content Table
-      end = run (step D) middle second
+      end = run (step D) w calls
+
+      -- both halves of a controller's turn
+      halves : (c : ℕ) (t : Turn D c w calls)
+          → Every (step D) (Allowed D) w (t .first)
+          × Every (step D) (Allowed D) (run (step D) w (t .first)) (t .second)
+      halves c t = every-append (step D) (Allowed D) w (t .first) (t .second) (rw (t .cut) at a)
+
+      turned : (c : ℕ) (t : Turn D c w calls) → run (step D) (run (step D) w (t .first)) (t .second) ≡ end
+      turned c t = sym (ap (run (step D) w) (t .cut) ∙ run-append (step D) w (t .first) (t .second))
 
       module _ (m : ℕ) (agreed : Agreed D m)
           (given : (c : ℕ) → c < D .controllers → D .strays c ≡ false → m ≤ w .controllers c .last)
           (lower : (j : ℕ) → 0 < j → j < m → j ≤ lasts w (D .switch j)) where
-        primed : (c : ℕ) → c < D .controllers → D .strays c ≡ false → Primed m agreed c middle
-        primed c l keeps = record {
-          given = omega (arith, given c l keeps, run-grows D w first a .given c);
-          free = λ j e.
-              let t = L .lower m j e in
-              acknowledged-after c j w I (lower j (t .0) (t .1)) first a
-              (round .acknowledged c j l keeps (t .0, omega (arith, t .1, agreed .1)));
-        }
+        primed : (c : ℕ) (l : c < D .controllers) (keeps : D .strays c ≡ false)
+            → Primed m agreed c (run (step D) w (round c l keeps .first))
+        primed c l keeps =
+            let h = round c l keeps in
+            let b = halves c h .0 in
+            record {
+              given = omega (arith, given c l keeps, run-grows D w (h .first) b .given c);
+              free = λ j e.
+                  let t = L .lower m j e in
+                  acknowledged-after c j w I (lower j (t .0) (t .1)) (h .first) b
+                  (h .acknowledged j (t .0, omega (arith, t .1, agreed .1)));
+            }
 
         -- else all that keep the rules would hold it
         pub round-makes : m ≤ lasts end (D .switch m)
         round-makes =
-            let J = run-kept D L w I first a in
             by-le m (lasts end (D .switch m)) (λ l. l)
             (λ undone.
             let all : (c : ℕ) → c < D .controllers → not (D .strays c) ≡ true
             → holds D m (D .content m) (end .switches (D .switch m) .slots c) ≡ true =
             λ c l e.
             let keeps = not-true (D .strays c) e in
+            let t = round c l keeps in
+            let b = halves c t in
             let held = ⊎-elim (λ done. absurd (omega arith)) (λ h. h)
-            (shared-held m agreed c keeps middle J (primed c l keeps) second b (round .shared c m l keeps agreed)) in
+            (subst (DoneOrHeld m agreed c) (turned c t)
+            (shared-held m agreed c keeps (run (step D) w (t .first)) (run-kept D L w I (t .first) (b .0))
+            (primed c l keeps) (t .second) (b .1) (t .shared m agreed))) in
             and-join _ _ (eq-eqb _ _ (held .0)) (rw (held .1) (L .same-mine (D .content m))) in
             let many = count-mono (D .controllers) (λ c. not (D .strays c))
             (λ c. holds D m (D .content m) (end .switches (D .switch m) .slots c)) all in
@@ -289,7 +301,7 @@ module _ {Content Table : Type 0} (D : Domain Content Table) where
               many,
               count-not (D .controllers) (D .strays),
               L .enough,
-              run-kept D L middle J second b .short (D .switch m) m (D .content m) (agreed .0),
+              run-kept D L w I calls a .short (D .switch m) m (D .content m) (agreed .0),
             )))
 
     module _ (d : ℕ) (all : d ≤ D .total) where
@@ -314,17 +326,16 @@ module _ {Content Table : Type 0} (D : Domain Content Table) where
           rw e at (ltb-false (lasts w (D .switch (i + 1))) (i + 1) (none i (omega arith)))
 
       -- after a round fewer are unmade, if any were
-      one-less : (w : World Content Table) → Invariant D w → (first second : List (Call Content))
-          → Every (step D) (Allowed D) w first → Every (step D) (Allowed D) (run (step D) w first) second
-          → Round D w first second → Given w → (k : ℕ) → unmade D w d ≤ suc k
-          → unmade D (run (step D) (run (step D) w first) second) d ≤ k
-      one-less w I first second a b round given k few =
-          let g = grown-again (run-grows D w first a) (run-grows D (run (step D) w first) second b) in
+      one-less : (w : World Content Table) → Invariant D w → (calls : List (Call Content))
+          → Every (step D) (Allowed D) w calls → Round D w calls → Given w → (k : ℕ) → unmade D w d ≤ suc k
+          → unmade D (run (step D) w calls) d ≤ k
+      one-less w I calls a round given k few =
+          let g = run-grows D w calls a in
           by-eq (unmade D w d) 0 (λ z. omega (arith, no-more g))
           (λ some.
           let low = lowest d (λ i. isUnmade D w (i + 1)) (omega arith) in
           let m = low .0 + 1 in
-          let done = round-makes w I first second a b round m (omega arith, omega (arith, low .1))
+          let done = round-makes w I calls a round m (omega arith, omega (arith, low .1))
           (λ c l keeps. omega (arith, given c l keeps, low .1))
           (λ j h l. numbered w (low .0) (low .3) j h (omega arith)) in
           omega (
@@ -339,23 +350,16 @@ module _ {Content Table : Type 0} (D : Domain Content Table) where
           → (j : ℕ) → 0 < j → j ≤ d → j ≤ lasts (run (step D) w xs) (D .switch j)
       rounds-make zero w I xs a given few rounds j h l =
           omega (arith, numbered w d (count-zero d _ (omega arith)) j h l, run-grows D w xs a .applied (D .switch j))
-      rounds-make (suc k) w I xs a given few (gap, first, second, rest, cut, round, rounds) j h l =
+      rounds-make (suc k) w I xs a given few (gap, calls, rest, cut, round, rounds) j h l =
           let u = run (step D) w gap in
-          let v = run (step D) u first in
-          let a1 = every-append (step D) (Allowed D) w gap (first ++ (second ++ rest)) (rw cut at a) in
-          let a2 = every-append (step D) (Allowed D) u first (second ++ rest) (a1 .1) in
-          let a3 = every-append (step D) (Allowed D) v second rest (a2 .1) in
+          let a1 = every-append (step D) (Allowed D) w gap (calls ++ rest) (rw cut at a) in
+          let a2 = every-append (step D) (Allowed D) u calls rest (a1 .1) in
           let J = run-kept D L w I gap (a1 .0) in
-          let K = run-kept D L v (run-kept D L u J first (a2 .0)) second (a3 .0) in
+          let K = run-kept D L u J calls (a2 .0) in
           let g = run-grows D w gap (a1 .0) in
-          let g2 = grown-again (run-grows D u first (a2 .0)) (run-grows D v second (a3 .0)) in
-          let less = one-less u J first second (a2 .0) (a3 .0) round
+          let g2 = run-grows D u calls (a2 .0) in
+          let less = one-less u J calls (a2 .0) round
           (λ c i keeps. omega (arith, given c i keeps, g .given c)) k (omega (arith, no-more g)) in
-          rw (
-            cut,
-            run-append (step D) w gap (first ++ (second ++ rest)),
-            run-append (step D) u first (second ++ rest),
-            run-append (step D) v second rest,
-          )
-          (rounds-make k (run (step D) v second) K rest (a3 .1)
+          rw (cut, run-append (step D) w gap (calls ++ rest), run-append (step D) u calls rest)
+          (rounds-make k (run (step D) u calls) K rest (a2 .1)
           (λ c i keeps. omega (arith, given c i keeps, g .given c, g2 .given c)) less rounds j h l)

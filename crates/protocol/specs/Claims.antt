@@ -2,7 +2,7 @@
 -- make. Assumes nothing.
 use mathlib.Core.Path.{_≡_}
 use mathlib.Core.Bool.{Bool, true, false}
-use mathlib.Core.List.{List, [], _∷_, map, List·Memᴰ}
+use mathlib.Core.List.{List, [], _∷_, _++_, map, List·Memᴰ}
 use Prim.Native.Nat.{ℕ, _+_, _≤_, _<_}
 use lib.Dec.{ltb, eqb}
 use Rattle.answer.specs.Ask.{pick}
@@ -57,15 +57,22 @@ module _ {Content Table : Type 0} (D : Domain Content Table) where
         → (isAmong (switches s .last) (numbers made) ≡ true) × (D .switch (switches s .last) ≡ s)
 
   -- A full round: the acknowledgement of each switch as it would write it then reaches each controller that keeps the
-  -- rules, then each such controller's share for each switch does, if it would write one then.
-  pub record Round (w : World Content Table) (first second : List (Call Content)) : Type 0 where
-    pub acknowledged : (c k : ℕ) → c < D .controllers → D .strays c ≡ false → Agreed D k
+  -- rules, then that controller's share for each switch does, if it would write one then. Where the one half ends and
+  -- the other begins may differ from controller to controller.
+  pub record Turn (c : ℕ) (w : World Content Table) (calls : List (Call Content)) : Type 0 where
+    pub first : List (Call Content)
+    pub second : List (Call Content)
+    pub cut : calls ≡ first ++ second
+    pub acknowledged : (k : ℕ) → Agreed D k
         → Sometime (step D)
         (λ v rest. List·Memᴰ (takesAcknowledgement c (D .switch k) (v .switches (D .switch k) .last)) rest) w first
-    pub shared : (c k : ℕ) → c < D .controllers → D .strays c ≡ false → Agreed D k
+    pub shared : (k : ℕ) → Agreed D k
         → Sometime (step D) (λ v rest. Ready D (v .controllers c) k
         → List·Memᴰ (takesShare (D .switch k) c k (D .content k)) rest)
         (run (step D) w first) second
+
+  abbrev pub Round : World Content Table → List (Call Content) → Type 0
+  Round w calls = (c : ℕ) → c < D .controllers → D .strays c ≡ false → Turn c w calls
 
   -- room for each agreed change in every table that agreed changes make
   abbrev pub Roomy : Type 0
