@@ -2,8 +2,8 @@
 -- more, these are given at each of them, and as many full rounds as are unmade make all; so it is with decisions brought,
 -- and with decisions taken.
 use mathlib.Core.Path.{_≡_, sym, ap, _∙_}
-use mathlib.Core.Bool.{true, false, not}
-use mathlib.Core.List.{List, _++_, List·Memᴰ}
+use mathlib.Core.Bool.{false, not}
+use mathlib.Core.List.{List, _++_}
 use Prim.Native.Nat.{ℕ, _+_, _≤_, _<_}
 use native.Mathlib.Omega.{arith}
 use lib.ListN.{length, getD, length-append}
@@ -109,7 +109,8 @@ module _ (S : Setting) (v : Valid S) where
         ap (λ (x : Undone). x .number) (sym (there .2)) ∙ number-at (there .0) (there .1) in
         let g : protocol-worlds.Agreed D k = (omega arith, omega (arith, there .1, few-changes)) in
         let done = rounds-make D (laws S v (ranged S v)) (roomy S v (ranged S v)) (length changes) few-changes
-        (unmade S changes r) (view r) (R .invariant) (seenAll S v r rest) (W .allowed) given few-unmade
+        (unmade S changes r) (view r) (R .invariant) (seenAll S v r rest) (W .allowed)
+        (λ c i serves. given c (serves .known) (serves .keeps)) few-unmade
         (rounds-seen S v (unmade S changes r) r R rest later rounds) k (omega arith) (omega (arith, there .1)) in
         let last : k ≤ run (step S) r rest .switches (D .switch k) .last = rw (← W .is) at done in
         rw (number, run-append (step S) (start S) before rest, numbers-are (run (step S) r rest .log))

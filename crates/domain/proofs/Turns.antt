@@ -151,16 +151,18 @@ module _ (S : Setting) (v : Valid S) where
           (fair-rest r (turn .first) (turn .second) both) (turn .shared s known)
 
     round-seen : protocol-claims.Round D (view r) (calls r xs)
-    round-seen c l keeps =
+    round-seen c i serves =
+        let l = serves .known in
+        let keeps = serves .keeps in
         let t = round c (l, keeps) in
         record {
           first = calls r (t .first);
           second = calls (middle c l keeps) (t .second);
           cut = ap (calls r) (t .cut) ∙ seen-append r (t .first) (t .second);
           acknowledged = turn-acknowledged c l keeps;
-          shared = λ k a.
+          shared = λ k still.
               subst (λ w. Sometime (protocol-worlds.step D) (Comes c k) w (calls (middle c l keeps) (t .second)))
-              (walked r R (t .first) (early c l keeps) .is) (turn-shared c l keeps k a);
+              (walked r R (t .first) (early c l keeps) .is) (turn-shared c l keeps k (still .agreed));
         }
 
   -- and so are any number of rounds, one after the other

@@ -5,5 +5,6 @@ pub mod Invariant
 pub mod Steps
 pub mod Kept
 pub mod Orders
+pub mod Lasts
 pub mod Growing
 pub mod Rounds
