@@ -17,8 +17,8 @@ use Rattle.playbook.proofs.Kept.{read-stored}
 use Rattle.controller.specs.Changes.{emptyUndone}
 use Rattle.controller.specs.Readiness.{sameFlow}
 use Rattle.controller.specs.declared.Undone.{Undone}
-use Rattle.protocol.specs.Worlds.{Trusted, Agreed}
-use Rattle.protocol.specs.Claims.{Laws}
+use Rattle.protocol.proofs.Worlds.{Trusted, Agreed}
+use Rattle.protocol.proofs.Claims.{Laws}
 use Rattle.protocol.proofs.Families.{count-every}
 use Rattle.domain.specs.Settings.{Decision, Setting, Valid, playbook}
 use Rattle.domain.specs.Agreement.{agreedChanges}

@@ -33,8 +33,8 @@ use Rattle.switch.specs.declared.Reply.{Reply}
 use Rattle.switch.specs.declared.Switch.{Switch}
 use Rattle.switch.proofs.Sent.{written-state, sent-bytes, acknowledgement-sent}
 use Rattle.protocol.specs.Families.{upd}
-use Rattle.protocol.specs.Ends as protocol
-use Rattle.protocol.specs.Worlds as protocol-worlds
+use Rattle.protocol.proofs.Ends as protocol
+use Rattle.protocol.proofs.Worlds as protocol-worlds
 use Rattle.protocol.proofs.Families.{upd-at, upd-ap}
 use Rattle.protocol.proofs.Steps.{other-stays}
 use Rattle.domain.specs.Settings.{Setting, Valid, switchKeys}

@@ -15,9 +15,9 @@ use Rattle.flow.specs.declared.Table.{Table}
 use Rattle.controller.specs.Changes.{emptyUndone}
 use Rattle.controller.specs.declared.Undone.{Undone}
 use Rattle.protocol.specs.Runs.{run}
-use Rattle.protocol.specs.Ends as protocol
-use Rattle.protocol.specs.Worlds as protocol-worlds
-use Rattle.protocol.specs.Claims as protocol-claims
+use Rattle.protocol.proofs.Ends as protocol
+use Rattle.protocol.proofs.Worlds as protocol-worlds
+use Rattle.protocol.proofs.Claims as protocol-claims
 use Rattle.protocol.proofs.Families.{count-not, count-mono, count-places, lowest}
 use Rattle.protocol.proofs.Runs.{run-append}
 use Rattle.protocol.proofs.Rounds.{rounds-make}

@@ -28,8 +28,8 @@ use Rattle.switch.proofs.Effects.{answered-1}
 use Rattle.controller.specs.Calls as controller-calls
 use Rattle.controller.specs.declared.Reply as controller-reply
 use Rattle.protocol.specs.Runs.{run, Every}
-use Rattle.protocol.specs.Ends as protocol
-use Rattle.protocol.specs.Worlds as protocol-worlds
+use Rattle.protocol.proofs.Ends as protocol
+use Rattle.protocol.proofs.Worlds as protocol-worlds
 use Rattle.protocol.proofs.Families.{upd-at}
 use Rattle.protocol.proofs.Runs.{run-append, every-append}
 use Rattle.protocol.proofs.Invariant.{Invariant, start-invariant}

@@ -27,7 +27,7 @@ use Rattle.switch.proofs.Effects.{emptied-at}
 use Rattle.switch.proofs.Kept.{stored-kept}
 use Rattle.switch.proofs.Within.{within}
 use Rattle.protocol.specs.Families.{upd, countBelow}
-use Rattle.protocol.specs.Ends as protocol
+use Rattle.protocol.proofs.Ends as protocol
 use Rattle.protocol.proofs.Families.{upd-same, upd-other, count-fewer, count-places}
 use Rattle.domain.specs.Settings.{Setting}
 use Rattle.domain.proofs.View.{domainOf, viewSlot, viewSwitch, viewReply}

@@ -9,9 +9,9 @@ use Prim.Native.Nat.{ℕ, zero, suc, _+_, _<_}
 use Rattle.flow.specs.declared.Rule.{Rule}
 use Rattle.flow.specs.declared.Table.{Table}
 use Rattle.protocol.specs.Runs.{run, Every, Sometime, Rounds}
-use Rattle.protocol.specs.Ends as protocol
-use Rattle.protocol.specs.Worlds as protocol-worlds
-use Rattle.protocol.specs.Claims as protocol-claims
+use Rattle.protocol.proofs.Ends as protocol
+use Rattle.protocol.proofs.Worlds as protocol-worlds
+use Rattle.protocol.proofs.Claims as protocol-claims
 use Rattle.protocol.proofs.Runs.{run-append, every-append}
 use Rattle.domain.specs.Settings.{Setting, Valid}
 use Rattle.domain.specs.Calls.{Call, Run, start, step}

@@ -33,9 +33,9 @@ use Rattle.controller.specs.Writing.{shareFor, shareWritten}
 use Rattle.controller.specs.Calls as controller-calls
 use Rattle.controller.specs.declared.Controller.{Controller}
 use Rattle.controller.specs.declared.Undone.{Undone}
-use Rattle.protocol.specs.Ends as protocol
-use Rattle.protocol.specs.Worlds as protocol-worlds
-use Rattle.protocol.specs.Worlds.{World}
+use Rattle.protocol.proofs.Ends as protocol
+use Rattle.protocol.proofs.Worlds as protocol-worlds
+use Rattle.protocol.proofs.Worlds.{World}
 use Rattle.domain.specs.Settings.{Setting, switchKeys, controllerKeys}
 use Rattle.domain.specs.Calls.{Call, atSwitch, atController, Done, Run, step}
 use Rattle.domain.specs.Ideals.{changeOf}

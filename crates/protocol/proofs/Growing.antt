@@ -7,10 +7,10 @@ use mathlib.Core.Logic.{inl, inr, ⊎-elim}
 use Prim.Native.Nat.{ℕ, _≤_}
 use native.Mathlib.Omega.{arith}
 use Rattle.protocol.specs.Runs.{run, Every, Sometime}
-use Rattle.protocol.specs.Ends.{Domain, Switch, Controller, Reply, takeShare}
-use Rattle.protocol.specs.Worlds.{World, Call, decides, writesShare, takesShare, writesAcknowledgement}
-use Rattle.protocol.specs.Worlds.{takesAcknowledgement, other, atController, step, isMember, Allowed}
-use Rattle.protocol.specs.Claims.{Laws}
+use Rattle.protocol.proofs.Ends.{Domain, Switch, Controller, Reply, takeShare}
+use Rattle.protocol.proofs.Worlds.{World, Call, decides, writesShare, takesShare, writesAcknowledgement}
+use Rattle.protocol.proofs.Worlds.{takesAcknowledgement, other, atController, step, isMember, Allowed}
+use Rattle.protocol.proofs.Claims.{Laws}
 use Rattle.protocol.proofs.Families.{upd-at, upd-grows}
 use Rattle.protocol.proofs.Runs.{run-keeps}
 use Rattle.protocol.proofs.Invariant.{lasts}

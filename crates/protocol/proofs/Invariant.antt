@@ -10,9 +10,9 @@ use native.Mathlib.Omega.{arith}
 use borrow.Author.Tests.{eqb-true}
 use Rattle.answer.proofs.Bools.{tf, is-false, and-parts, and-join}
 use Rattle.lists.specs.Kinds.{among, isAmong}
-use Rattle.protocol.specs.Ends.{Domain, Slot, slotFor, holds, agreeing}
-use Rattle.protocol.specs.Worlds.{Message, share, acknowledgement, World, start, Trusted, Agreed}
-use Rattle.protocol.specs.Claims.{Laws, numbers, tableAfter, Safe}
+use Rattle.protocol.proofs.Ends.{Domain, Slot, slotFor, holds, agreeing}
+use Rattle.protocol.proofs.Worlds.{Message, share, acknowledgement, World, start, Trusted, Agreed}
+use Rattle.protocol.proofs.Claims.{Laws, numbers, tableAfter, Safe}
 use Rattle.protocol.proofs.Families.{pigeon, count-none}
 
 module _ {Content Table : Type 0} where

@@ -12,13 +12,13 @@ use borrow.Author.Tests.{eqb-true, eq-eqb, ne-eqb}
 use Rattle.answer.proofs.Bools.{by-bool, by-eq, by-or, tf, is-false, and-join, or-left, or-right}
 use Rattle.lists.specs.Kinds.{among, isAmong}
 use Rattle.protocol.specs.Runs.{run, Every}
-use Rattle.protocol.specs.Ends.{Domain, Slot, Switch, Controller, Reply, slotFor, unchanged, stored, holds}
-use Rattle.protocol.specs.Ends.{agreeing}
-use Rattle.protocol.specs.Ends.{applied}
-use Rattle.protocol.specs.Worlds.{Message, share, World, Call, decides, writesShare}
-use Rattle.protocol.specs.Worlds.{takesShare, writesAcknowledgement, takesAcknowledgement, other}
-use Rattle.protocol.specs.Worlds.{writes, atController, atSwitch, start, step, Trusted, Agreed, Ready, Allowed}
-use Rattle.protocol.specs.Claims.{Laws, numbers, Next, tableAfter, Safe}
+use Rattle.protocol.proofs.Ends.{Domain, Slot, Switch, Controller, Reply, slotFor, unchanged, stored, holds}
+use Rattle.protocol.proofs.Ends.{agreeing}
+use Rattle.protocol.proofs.Ends.{applied}
+use Rattle.protocol.proofs.Worlds.{Message, share, World, Call, decides, writesShare}
+use Rattle.protocol.proofs.Worlds.{takesShare, writesAcknowledgement, takesAcknowledgement, other}
+use Rattle.protocol.proofs.Worlds.{writes, atController, atSwitch, start, step, Trusted, Agreed, Ready, Allowed}
+use Rattle.protocol.proofs.Claims.{Laws, numbers, Next, tableAfter, Safe}
 use Rattle.protocol.proofs.Families.{upd-same, upd-other, upd-at, count-mono}
 use Rattle.protocol.proofs.Runs.{run-keeps}
 use Rattle.protocol.proofs.Steps.{acknowledged-at, reply-stays, emptied-at, Taken, refused, repeated, held, made}

@@ -9,9 +9,9 @@ use lib.Dec.{eqb}
 use borrow.Author.Tests.{eqb-true, eqb-false, eq-eqb, ne-eqb}
 use Rattle.answer.proofs.Bools.{by-bool, by-eq, by-le, by-or, tf, or-left, or-right}
 use Rattle.lists.specs.Kinds.{among, isAmong}
-use Rattle.protocol.specs.Ends.{Domain}
-use Rattle.protocol.specs.Worlds.{World, Agreed}
-use Rattle.protocol.specs.Claims.{Laws, Next, Lawful, numbers, tableAfter, upTo}
+use Rattle.protocol.proofs.Ends.{Domain}
+use Rattle.protocol.proofs.Worlds.{World, Agreed}
+use Rattle.protocol.proofs.Claims.{Laws, Next, Lawful, numbers, tableAfter, upTo}
 use Rattle.protocol.proofs.Orders.{lawful-agreed, lawful-closed}
 use Rattle.protocol.proofs.Invariant.{lasts, Invariant}
 

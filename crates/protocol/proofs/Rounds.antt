@@ -14,12 +14,12 @@ use Rattle.answer.specs.Ask.{firstNo, reply}
 use Rattle.answer.proofs.Asked.{all-yes}
 use Rattle.answer.proofs.Bools.{by-bool, by-eq, by-le, and-join, and-parts, or-right}
 use Rattle.protocol.specs.Runs.{run, Every, Sometime, Rounds}
-use Rattle.protocol.specs.Ends.{Domain, Slot, Switch, Reply, slotFor, stored, holds, isQuorum}
-use Rattle.protocol.specs.Ends.{shareQuestions, taken, takeShare}
-use Rattle.protocol.specs.Worlds.{share, World, Call, decides, writesShare, takesShare}
-use Rattle.protocol.specs.Worlds.{writesAcknowledgement, takesAcknowledgement, other}
-use Rattle.protocol.specs.Worlds.{atSwitch, step, isMember, Agreed, Ready, Allowed}
-use Rattle.protocol.specs.Claims.{Laws, numbers, Serves, Turn, Round, Roomy, isUnmade, unmade}
+use Rattle.protocol.proofs.Ends.{Domain, Slot, Switch, Reply, slotFor, stored, holds, isQuorum}
+use Rattle.protocol.proofs.Ends.{shareQuestions, taken, takeShare}
+use Rattle.protocol.proofs.Worlds.{share, World, Call, decides, writesShare, takesShare}
+use Rattle.protocol.proofs.Worlds.{writesAcknowledgement, takesAcknowledgement, other}
+use Rattle.protocol.proofs.Worlds.{atSwitch, step, isMember, Agreed, Ready, Allowed}
+use Rattle.protocol.proofs.Claims.{Laws, numbers, Serves, Turn, Round, Roomy, isUnmade, unmade}
 use Rattle.protocol.proofs.Families.{upd-same, upd-other, upd-at, count-mono, count-both, count-zero, lowest}
 use Rattle.protocol.proofs.Families.{count-less}
 use Rattle.protocol.proofs.Runs.{run-append, every-append, run-keeps, Keeps, reached, sometime}

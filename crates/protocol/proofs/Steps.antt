@@ -9,12 +9,12 @@ use Rattle.answer.specs.Ask.{pick, firstNo}
 use Rattle.answer.proofs.Asked.{answered, reply-from}
 use Rattle.answer.proofs.Bools.{by-bool, by-or, or-none, tf, pick-keeps}
 use Rattle.protocol.specs.Families.{upd}
-use Rattle.protocol.specs.Ends.{Domain, Slot, Switch, Controller, Reply, slotFor, unchanged, stored, holds}
-use Rattle.protocol.specs.Ends.{agreeing, isQuorum}
-use Rattle.protocol.specs.Ends.{emptied, shareQuestions, applied, takeShare, isAbove, acknowledge}
-use Rattle.protocol.specs.Worlds.{World}
-use Rattle.protocol.specs.Worlds.{other}
-use Rattle.protocol.specs.Worlds.{atSwitch, step}
+use Rattle.protocol.proofs.Ends.{Domain, Slot, Switch, Controller, Reply, slotFor, unchanged, stored, holds}
+use Rattle.protocol.proofs.Ends.{agreeing, isQuorum}
+use Rattle.protocol.proofs.Ends.{emptied, shareQuestions, applied, takeShare, isAbove, acknowledge}
+use Rattle.protocol.proofs.Worlds.{World}
+use Rattle.protocol.proofs.Worlds.{other}
+use Rattle.protocol.proofs.Worlds.{atSwitch, step}
 use Rattle.protocol.proofs.Families.{upd-self}
 
 -- an acknowledgement: its number is above the acknowledged one, or nothing changes

@@ -1,5 +1,5 @@
--- What is claimed of the protocol's runs: the premises on the domain, what holds after every run, and what full rounds
--- make. Assumes nothing.
+-- What is shown of the protocol's runs: the premises on the domain, what holds after every run, and what full rounds
+-- make. The whole-run claim has its own `Safe`, `Round` and `Made`, in domain/specs.
 use mathlib.Core.Path.{_≡_}
 use mathlib.Core.Bool.{Bool, true, false}
 use mathlib.Core.List.{List, [], _∷_, _++_, map, List·Memᴰ}
@@ -9,9 +9,9 @@ use Rattle.answer.specs.Ask.{pick}
 use Rattle.lists.specs.Kinds.{isAmong}
 use Rattle.protocol.specs.Families.{countBelow}
 use Rattle.protocol.specs.Runs.{run, Sometime}
-use Rattle.protocol.specs.Ends.{Domain, Switch}
-use Rattle.protocol.specs.Worlds.{Made, World, Call, takesShare, takesAcknowledgement, step, isMember, Trusted}
-use Rattle.protocol.specs.Worlds.{Agreed, Ready}
+use Rattle.protocol.proofs.Ends.{Domain, Switch}
+use Rattle.protocol.proofs.Worlds.{Made, World, Call, takesShare, takesAcknowledgement, step, isMember, Trusted}
+use Rattle.protocol.proofs.Worlds.{Agreed, Ready}
 
 -- the numbers from k down to 1
 unfoldable pub upTo : ℕ → List ℕ

@@ -1,5 +1,5 @@
 -- The world of all ends, its calls, and which calls the rules and the premises allow. s is a switch, c a controller,
--- k a number, x a content. Assumes nothing.
+-- k a number, x a content.
 use mathlib.Core.Path.{_≡_}
 use mathlib.Core.Bool.{Bool, true, false, _&&_}
 use mathlib.Core.List.{List, [], _∷_, List·Memᴰ}
@@ -7,7 +7,7 @@ use Prim.Native.Nat.{ℕ, _+_, _≤_, _<_}
 use lib.Dec.{eqb}
 use Rattle.answer.specs.Ask.{pick}
 use Rattle.protocol.specs.Families.{upd, countBelow}
-use Rattle.protocol.specs.Ends.{Domain, Switch, Controller, Reply, slotFor, takeShare, acknowledge}
+use Rattle.protocol.proofs.Ends.{Domain, Switch, Controller, Reply, slotFor, takeShare, acknowledge}
 
 -- what was written: a share from a controller for a switch, an acknowledgement from a switch for a controller
 pub data Message (Content : Type 0) : Type 0 where
