@@ -1,6 +1,6 @@
 -- The agreed changes of a setting as the protocol's: each number is that of its change, so a change waits for what is
 -- lower and related, and the laws that the protocol asks of its domain hold. Assumes nothing.
-use mathlib.Core.Path.{_≡_, sym, ap, _∙_}
+use mathlib.Core.Path.{_≡_, refl, sym, ap, _∙_}
 use mathlib.Core.Bool.{true, _&&_}
 use mathlib.Core.List.{List, _++_}
 use Prim.Native.Nat.{ℕ, _+_, _-_, _≤_, _<_}
@@ -9,6 +9,7 @@ use lib.Dec.{ltb}
 use lib.ListN.{length, getD, length-append, List·getD-append}
 use borrow.Author.Tests.{ltb-true, lt-ltb, eq-eqb}
 use Rattle.answer.proofs.Bools.{and-join, and-parts, or-right}
+use Rattle.flow.specs.declared.Table.{Table}
 use Rattle.flow.proofs.Actions.{rule-sound, rule-mine}
 use Rattle.playbook.specs.Printing.{InRange}
 use Rattle.playbook.specs.Storing.{storedOk}
@@ -16,8 +17,9 @@ use Rattle.playbook.proofs.Kept.{read-stored}
 use Rattle.controller.specs.Changes.{emptyUndone}
 use Rattle.controller.specs.Readiness.{sameFlow}
 use Rattle.controller.specs.declared.Undone.{Undone}
-use Rattle.protocol.specs.Worlds.{Agreed}
-use Rattle.protocol.specs.Claims.{Laws}
+use Rattle.protocol.proofs.Worlds.{Trusted, Agreed}
+use Rattle.protocol.proofs.Claims.{Laws}
+use Rattle.protocol.proofs.Families.{count-every}
 use Rattle.domain.specs.Settings.{Decision, Setting, Valid, playbook}
 use Rattle.domain.specs.Agreement.{agreedChanges}
 use Rattle.domain.specs.Ideals.{changeOf}
@@ -35,6 +37,13 @@ module _ (S : Setting) (ds rest : List Decision) (e : S .agreed ≡ ds ++ rest) 
   beginning-few =
       omega (arith, ap length (beginning-of .1), length-append (agreedChanges (playbook S) ds) (beginning-of .0))
 
+-- a quorum is more than the strays, and no more than the others
+pub all-trusted : (S : Setting) → Valid S → (t : Table) → Trusted (domainOf S) t
+all-trusted S ok t = record {
+  too-few = omega (arith, ok .straying);
+  enough = omega (arith, ok .straying, ok .some, count-every (S .n) (λ c. true) (λ i l. refl));
+}
+
 module _ (S : Setting) (ok : Valid S) (ranged : InRange (playbook S)) where
   pub stored : storedOk (playbook S) ≡ true
   stored = read-stored (S .book)
@@ -45,11 +54,10 @@ module _ (S : Setting) (ok : Valid S) (ranged : InRange (playbook S)) where
       let e : k - 1 + 1 ≡ k = omega (arith, g .0) in
       rw e at (agreed-fine (playbook S) stored ranged (S .agreed) (k - 1) (omega (arith, g .0, g .1)))
 
-  -- a quorum is more than the strays, and no more than the others
   pub laws : Laws (domainOf S)
   laws = record {
-    too-few = omega (arith, ok .straying);
-    enough = omega (arith, ok .straying, ok .some);
+    trusted = all-trusted S ok (domainOf S .empty);
+    none-joins = λ x t c m. m;
     lower = λ k j e.
         let t = and-parts (ltb 0 j && ltb j k) _ e in
         let u = and-parts (ltb 0 j) (ltb j k) (t .0) in

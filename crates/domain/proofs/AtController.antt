@@ -36,8 +36,8 @@ use Rattle.controller.proofs.Kept.{call-grows}
 use Rattle.controller.proofs.Sent.{written-state, allowed, share-sent}
 use Rattle.controller.proofs.Waiting.{Readied, ready-sound}
 use Rattle.protocol.specs.Families.{upd}
-use Rattle.protocol.specs.Ends as protocol
-use Rattle.protocol.specs.Worlds as protocol-worlds
+use Rattle.protocol.proofs.Ends as protocol
+use Rattle.protocol.proofs.Worlds as protocol-worlds
 use Rattle.protocol.proofs.Steps.{other-stays}
 use Rattle.protocol.proofs.Families.{upd-same, upd-other, upd-self, upd-ap}
 use Rattle.domain.specs.Settings.{Decision, Setting, Valid, playbook, controllerKeys}

@@ -33,8 +33,8 @@ use Rattle.switch.specs.declared.Switch.{Switch}
 use Rattle.switch.proofs.Moves.{Leaves, managed-leaves}
 use Rattle.switch.proofs.Sent.{written-state, sent-bytes, acknowledgement-sent}
 use Rattle.protocol.specs.Families.{upd}
-use Rattle.protocol.specs.Ends as protocol
-use Rattle.protocol.specs.Worlds as protocol-worlds
+use Rattle.protocol.proofs.Ends as protocol
+use Rattle.protocol.proofs.Worlds as protocol-worlds
 use Rattle.protocol.proofs.Families.{upd-at, upd-ap}
 use Rattle.protocol.proofs.Steps.{other-stays}
 use Rattle.domain.specs.Settings.{Setting, Valid, switchKeys}
@@ -45,6 +45,7 @@ use Rattle.domain.proofs.View.{domainOf, viewSlot, viewSwitch, viewRepl
 use Rattle.domain.proofs.View.{acknowledgementSaid, isFrom, Seen}
 use Rattle.message.proofs.Stores.{joined-length, joined-at}
 use Rattle.domain.proofs.Shares.{share-view}
+use Rattle.domain.proofs.Agreed.{all-trusted}
 use Rattle.domain.proofs.Ends.{SwitchFine}
 use Rattle.domain.proofs.Messages.{share-said, sealed-tagged, From, is-from, from-asked, not-from}
 
@@ -136,6 +137,7 @@ module _ (S : Setting) (v : Valid S) (r : Run) (s : ℕ) (l : s < 16) (f : Switc
               let key = joined-at (λ i. S .key i s) (λ i. v .keys i s) (S .n) c (from .known) in
               share-said (honest c (rw (d, from .here) premises.share) (from .known, keeps)
               (sealed-tagged (S .key c s) bytes (rw key at (from .sealed)))) d,
+          all-trusted S v _,
         )
 
       -- refused by 12, 13, 14 or 15

@@ -31,8 +31,8 @@ use Rattle.controller.specs.declared.Undone.{Undone}
 use Rattle.controller.proofs.Sent.{ready-sent, share-sent}
 use Rattle.controller.proofs.Waiting.{Readied, ready-found}
 use Rattle.controller.proofs.Within.{within}
-use Rattle.protocol.specs.Ends as protocol
-use Rattle.protocol.specs.Worlds as protocol-worlds
+use Rattle.protocol.proofs.Ends as protocol
+use Rattle.protocol.proofs.Worlds as protocol-worlds
 use Rattle.domain.specs.Settings.{Decision, Setting, Valid, playbook, switchKeys, controllerKeys}
 use Rattle.domain.specs.Calls.{atSwitch, atController, Run}
 use Rattle.domain.specs.Ideals.{changeOf}

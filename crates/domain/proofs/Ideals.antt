@@ -16,8 +16,8 @@ use Rattle.flow.specs.declared.Table.{Table}
 use Rattle.playbook.specs.Printing.{InRange}
 use Rattle.controller.specs.Changes.{emptyUndone}
 use Rattle.controller.specs.Readiness.{waitsFor}
-use Rattle.protocol.specs.Ends as protocol
-use Rattle.protocol.specs.Claims.{Next, Lawful, tableAfter}
+use Rattle.protocol.proofs.Ends as protocol
+use Rattle.protocol.proofs.Claims.{Next, Lawful, tableAfter}
 use Rattle.protocol.proofs.Families.{upd-at}
 use Rattle.domain.specs.Settings.{Setting, Valid, playbook}
 use Rattle.domain.specs.Ideals.{Ideal, changeOf, skipsNone, accepts, feed, fed}

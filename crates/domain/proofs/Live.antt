@@ -1,11 +1,12 @@
--- The second half of the claim. Where the controllers that keep the rules have taken the same decisions, all changes of
--- these are given at each of them, and as many full rounds as are unmade make all. Assumes nothing.
+-- The second half of the claim. Where the controllers that keep the rules were brought the same changes, some perhaps
+-- more, these are given at each of them, and as many full rounds as are unmade make all; so it is with decisions brought,
+-- and with decisions taken.
 use mathlib.Core.Path.{_≡_, sym, ap, _∙_}
-use mathlib.Core.Bool.{true, false, not}
-use mathlib.Core.List.{List, _++_, List·Memᴰ}
+use mathlib.Core.Bool.{false, not}
+use mathlib.Core.List.{List, _++_}
 use Prim.Native.Nat.{ℕ, _+_, _≤_, _<_}
 use native.Mathlib.Omega.{arith}
-use lib.ListN.{length, getD}
+use lib.ListN.{length, getD, length-append}
 use borrow.Author.Tests.{ltb-true, not-true}
 use Rattle.answer.proofs.Bools.{is-false}
 use Rattle.lists.specs.Kinds.{isAmong}
@@ -13,10 +14,10 @@ use Rattle.flow.specs.declared.Rule.{Rule}
 use Rattle.flow.specs.declared.Table.{Table}
 use Rattle.controller.specs.Changes.{emptyUndone}
 use Rattle.controller.specs.declared.Undone.{Undone}
-use Rattle.protocol.specs.Runs.{run, Rounds}
-use Rattle.protocol.specs.Ends as protocol
-use Rattle.protocol.specs.Worlds as protocol-worlds
-use Rattle.protocol.specs.Claims as protocol-claims
+use Rattle.protocol.specs.Runs.{run}
+use Rattle.protocol.proofs.Ends as protocol
+use Rattle.protocol.proofs.Worlds as protocol-worlds
+use Rattle.protocol.proofs.Claims as protocol-claims
 use Rattle.protocol.proofs.Families.{count-not, count-mono, count-places, lowest}
 use Rattle.protocol.proofs.Runs.{run-append}
 use Rattle.protocol.proofs.Rounds.{rounds-make}
@@ -24,15 +25,13 @@ use Rattle.domain.specs.Settings.{Decision, Setting, Valid, playbook, Ke
 use Rattle.domain.specs.Calls.{Call, Run, start, step}
 use Rattle.domain.specs.Premises.{brought, taken, Premises}
 use Rattle.domain.specs.Agreement.{agreedChanges}
-use Rattle.domain.specs.Rounds.{Round}
-use Rattle.domain.specs.Claim.{agreed, answered, unmade}
-use Rattle.domain.proofs.Courses.{agreed-fine}
+use Rattle.domain.specs.Claim.{agreed, answered, unmade, AllBrought, RoundsMake}
+use Rattle.domain.proofs.Courses.{agreed-fine, agreed-adds}
 use Rattle.domain.proofs.View.{domainOf, view}
 use Rattle.domain.proofs.Agreed.{stored, laws, beginning-few}
-use Rattle.domain.proofs.Ends.{courseOf}
 use Rattle.domain.proofs.Undone.{last-given}
-use Rattle.domain.proofs.Reached.{Reached, Walked, ranged}
-use Rattle.domain.proofs.Reached.{seenAll, start-reached}
+use Rattle.domain.proofs.Reached.{Reached, Walked, premises-before, ranged, seenAll, start-reached}
+use Rattle.domain.proofs.Reached.{run-reached}
 use Rattle.domain.proofs.Numbers.{numbers-are, member-at}
 use Rattle.domain.proofs.Room.{roomy}
 use Rattle.domain.proofs.Turns.{Fair, premises-fair, fair-first, fair-rest, walked, rounds-seen}
@@ -49,7 +48,9 @@ module _ (S : Setting) (v : Valid S) where
       (some .0, (some .1, not-true _ (some .2)))
 
   module _ (before rest : List Call) (p : Premises S (before ++ rest)) (ds : List Decision)
-      (same : (c : ℕ) → Keeps S c → taken c (run (step S) (start S) before .log) ≡ ds) where
+      (least : (c : ℕ) → Keeps S c → (more : List Undone)
+      × (agreedChanges (playbook S) (brought c (run (step S) (start S) before .log))
+      ≡ agreedChanges (playbook S) ds ++ more)) where
     abbrev r : Run
     r = run (step S) (start S) before
 
@@ -71,22 +72,21 @@ module _ (S : Setting) (v : Valid S) where
     W : Walked S v r rest
     W = walked S v r R rest later
 
-    -- the decisions taken are as good as those brought
-    taken-changes : (c : ℕ) → Keeps S c → agreedChanges (playbook S) (brought c (r .log)) ≡ changes
-    unfolding agreedChanges
-    taken-changes c keeps = ap (λ a. a .changes) (R .took c keeps ∙ ap (courseOf S) (same c keeps))
+    at-least : (c : ℕ) → Keeps S c → length changes ≤ length (agreedChanges (playbook S) (brought c (r .log)))
+    at-least c keeps =
+        let m = least c keeps in omega (arith, ap length (m .1), length-append changes (m .0))
 
     given : (c : ℕ) → c < S .n → S .strays c ≡ false → length changes ≤ view r .controllers c .last
     given c l keeps =
         let is = last-given S c _ _ (R .controllers c (l, keeps)) in
-        omega (arith, is, ap length (taken-changes c (l, keeps)))
+        omega (arith, is, at-least c (l, keeps))
 
     few-changes : length changes ≤ length (agreed S)
     few-changes =
         let c = keeper in
         let b = early .begun (c .0) (c .1) in
         let few = beginning-few S (brought (c .0) (r .log)) (b .0) (b .1) in
-        omega (arith, few, ap length (taken-changes (c .0) (c .1)))
+        omega (arith, few, at-least (c .0) (c .1))
 
     -- the change at a place has the number that follows
     number-at : (i : ℕ) → i < length changes → getD changes i emptyUndone .number ≡ i + 1
@@ -101,8 +101,7 @@ module _ (S : Setting) (v : Valid S) where
         let made = R .invariant .safe .highest (i + 1) (rw (numbers-are (r .log)) at h) in
         omega (arith, ltb-true (view r .switches (D .switch (i + 1)) .last) (i + 1) e))))))
 
-    pub all-made : Rounds (step S) (Round S) (unmade S changes r) r rest → (u : Undone) → List·Memᴰ u changes
-        → isAmong (u .number) (answered S (run (step S) (start S) (before ++ rest))) ≡ true
+    all-made : RoundsMake S ds before rest
     all-made rounds u h =
         let there = member-at changes u emptyUndone h in
         let k = there .0 + 1 in
@@ -110,8 +109,39 @@ module _ (S : Setting) (v : Valid S) where
         ap (λ (x : Undone). x .number) (sym (there .2)) ∙ number-at (there .0) (there .1) in
         let g : protocol-worlds.Agreed D k = (omega arith, omega (arith, there .1, few-changes)) in
         let done = rounds-make D (laws S v (ranged S v)) (roomy S v (ranged S v)) (length changes) few-changes
-        (unmade S changes r) (view r) (R .invariant) (seenAll S v r rest) (W .allowed) given few-unmade
+        (unmade S changes r) (view r) (R .invariant) (seenAll S v r rest) (W .allowed)
+        (λ c i serves. given c (serves .known) (serves .keeps)) few-unmade
         (rounds-seen S v (unmade S changes r) r R rest later rounds) k (omega arith) (omega (arith, there .1)) in
         let last : k ≤ run (step S) r rest .switches (D .switch k) .last = rw (← W .is) at done in
         rw (number, run-append (step S) (start S) before rest, numbers-are (run (step S) r rest .log))
         (W .reached .invariant .all-made k g last)
+
+  -- decisions brought
+  pub brought-made : (before rest : List Call) → Premises S (before ++ rest) → (ds : List Decision)
+      → AllBrought S ds (run (step S) (start S) before) → RoundsMake S ds before rest
+  brought-made before rest p ds least =
+      all-made before rest p ds (λ c keeps.
+      let m = least c keeps in
+      let adds = agreed-adds (playbook S) ds (m .0) in
+      (adds .0, ap (agreedChanges (playbook S)) (m .1) ∙ adds .1))
+
+  -- a controller's decisions taken have the changes of those brought: one refused by 12, 22 or 23 has none
+  pub taken-changes : (calls : List Call) → Premises S calls → (c : ℕ) → Keeps S c →
+      let log = run (step S) (start S) calls .log in
+      agreedChanges (playbook S) (brought c log) ≡ agreedChanges (playbook S) (taken c log)
+  unfolding agreedChanges
+  taken-changes calls p c keeps = ap (λ a. a .changes) (run-reached S v calls p .took c keeps)
+
+  -- decisions taken
+  pub taken-made : (before rest : List Call) → Premises S (before ++ rest) → (ds : List Decision)
+      → ((c : ℕ) → Keeps S c
+      → (more : List Decision) × (taken c (run (step S) (start S) before .log) ≡ ds ++ more))
+      → RoundsMake S ds before rest
+  taken-made before rest p ds least =
+      all-made before rest p ds (λ c keeps.
+      let m = least c keeps in
+      let adds = agreed-adds (playbook S) ds (m .0) in (
+        adds .0,
+        taken-changes before (premises-before S before rest p) c keeps
+            ∙ ap (agreedChanges (playbook S)) (m .1) ∙ adds .1,
+      ))

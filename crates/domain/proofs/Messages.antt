@@ -23,7 +23,7 @@ use Rattle.message.specs.declared.Message.{Message}
 use Rattle.message.specs.declared.Message.the-variants.{Event, Share, Acknowledgement, Refused}
 use Rattle.switch.specs.Calls.{receives, writes, manages}
 use Rattle.controller.specs.Calls as controller-calls
-use Rattle.protocol.specs.Worlds as protocol-worlds
+use Rattle.protocol.proofs.Worlds as protocol-worlds
 use Rattle.domain.specs.Calls.{Call, atSwitch, atController, Done}
 use Rattle.domain.specs.Premises.{Tagged, SwitchWrote, ControllerWrote}
 use Rattle.domain.specs.Premises as premises

@@ -19,7 +19,7 @@ use Rattle.message.specs.Layout.{numberAt}
 use Rattle.message.specs.Reading.{decode}
 use Rattle.message.specs.declared.End.the-variants as ends
 use Rattle.switch.specs.Calls.{receives, writes, manages}
-use Rattle.protocol.specs.Worlds as protocol-worlds
+use Rattle.protocol.proofs.Worlds as protocol-worlds
 use Rattle.domain.specs.Calls.{Call, atSwitch, atController, Done}
 use Rattle.domain.specs.Claim.{Made, madeBy, made, numbers, numbersAt, highest}
 use Rattle.domain.proofs.View.{ruleIn, madeIn, madeSo}

@@ -28,9 +28,10 @@ use Rattle.switch.proofs.Effects.{answered-1}
 use Rattle.controller.specs.Calls as controller-calls
 use Rattle.controller.specs.declared.Reply as controller-reply
 use Rattle.protocol.specs.Runs.{run, Every}
-use Rattle.protocol.specs.Ends as protocol
-use Rattle.protocol.specs.Worlds as protocol-worlds
+use Rattle.protocol.proofs.Ends as protocol
+use Rattle.protocol.proofs.Worlds as protocol-worlds
 use Rattle.protocol.proofs.Families.{upd-at}
+use Rattle.protocol.proofs.Runs.{run-append, every-append}
 use Rattle.protocol.proofs.Invariant.{Invariant, start-invariant}
 use Rattle.protocol.proofs.Kept.{call-kept}
 use Rattle.protocol.proofs.Orders.{lawful-agreed}
@@ -96,6 +97,14 @@ module _ (S : Setting) where
   pub begun-early : (r : Run) (xs : List Call) → Begun (run (step S) r xs) → Begun r
   begun-early r [] begun = begun
   begun-early r (x ∷ xs) begun = begun-before r x (begun-early (step S r x) xs begun)
+
+  -- and a beginning of a list of calls within the premises is within them
+  pub premises-before : (xs ys : List Call) → Premises S (xs ++ ys) → Premises S xs
+  premises-before xs ys p = record {
+    in-run = every-append (step S) (InRun S) (start S) xs ys (p .in-run) .0;
+    unforged = every-append (step S) (Unforged S) (start S) xs ys (p .unforged) .0;
+    beginning = begun-early (run (step S) (start S) xs) ys (rw (run-append (step S) (start S) xs ys) at (p .beginning));
+  }
 
   -- each share answered 1 was read as a share for its switch
   abbrev pub SharesRead : List Done → Type 0

@@ -27,9 +27,9 @@ use Rattle.playbook.specs.Printing.{InRange}
 use Rattle.playbook.proofs.Few.{stored-kinds}
 use Rattle.controller.specs.Changes.{emptyUndone}
 use Rattle.controller.specs.declared.Undone.{Undone}
-use Rattle.protocol.specs.Ends as protocol
-use Rattle.protocol.specs.Worlds.{Agreed}
-use Rattle.protocol.specs.Claims.{tableAfter, Roomy}
+use Rattle.protocol.proofs.Ends as protocol
+use Rattle.protocol.proofs.Worlds.{Agreed}
+use Rattle.protocol.proofs.Claims.{tableAfter, Roomy}
 use Rattle.domain.specs.Settings.{Setting, Valid, playbook}
 use Rattle.domain.specs.Claim.{agreed}
 use Rattle.domain.proofs.View.{domainOf}

@@ -17,10 +17,10 @@ use Rattle.message.proofs.Ends.{share-number}
 use Rattle.switch.specs.Calls.{receives}
 use Rattle.controller.specs.Changes.{emptyUndone}
 use Rattle.protocol.specs.Orders.{falling}
-use Rattle.protocol.specs.Ends as protocol
-use Rattle.protocol.specs.Worlds as protocol-worlds
-use Rattle.protocol.specs.Claims as protocol-claims
-use Rattle.protocol.specs.Claims.{Lawful}
+use Rattle.protocol.proofs.Ends as protocol
+use Rattle.protocol.proofs.Worlds as protocol-worlds
+use Rattle.protocol.proofs.Claims as protocol-claims
+use Rattle.protocol.proofs.Claims.{Lawful}
 use Rattle.protocol.proofs.Orders.{lawful-agreed, falling-lawful, falling-tables}
 use Rattle.domain.specs.Settings.{Setting, Valid}
 use Rattle.domain.specs.Calls.{atSwitch, Run}

@@ -27,7 +27,7 @@ use Rattle.switch.proofs.Effects.{emptied-at}
 use Rattle.switch.proofs.Kept.{stored-kept}
 use Rattle.switch.proofs.Within.{within}
 use Rattle.protocol.specs.Families.{upd, countBelow}
-use Rattle.protocol.specs.Ends as protocol
+use Rattle.protocol.proofs.Ends as protocol
 use Rattle.protocol.proofs.Families.{upd-same, upd-other, count-fewer, count-places}
 use Rattle.domain.specs.Settings.{Setting}
 use Rattle.domain.proofs.View.{domainOf, viewSlot, viewSwitch, viewReply}
@@ -71,34 +71,36 @@ module _ (S : Setting) (t : Switch) (ok : switchOk t ≡ true) (n : t .n ≡ S .
   stored-view : viewSwitch (stored t c k rule) ≡ protocol.stored (viewSwitch t) c k rule
   stored-view = λ j. record { last = t .last; table = t .table; slots = λ i. stored-slot i j }
 
-  emptied-view : (slot : Slot) → viewSlot (emptied k slot) ≡ protocol.emptied D k (viewSlot slot)
-  emptied-view slot = sym (pick-ap viewSlot (leb (slot .number) k) emptySlot slot)
+  emptied-view : (u : Table) (i : ℕ) (slot : Slot) → viewSlot (emptied k slot) ≡ protocol.emptied D u k i (viewSlot slot)
+  emptied-view u i slot = sym (pick-ap viewSlot (leb (slot .number) k) emptySlot slot)
 
   applied-view : viewSwitch (applied (stored t c k rule) k rule)
       ≡ protocol.applied D (protocol.stored (viewSwitch t) c k rule) k rule
   applied-view =
       let slot : (i : ℕ) → viewSlot (slotOf (applied (stored t c k rule) k rule) i)
-      ≡ protocol.emptied D k (upd (λ i. viewSlot (slotOf t i)) c (protocol.slotFor k rule) i) =
+      ≡ protocol.emptied D (t .table) k i (upd (λ i. viewSlot (slotOf t i)) c (protocol.slotFor k rule) i) =
       λ i. ap viewSlot (emptied-at k (stored t c k rule .slots) i)
-      ∙ emptied-view (slotOf (stored t c k rule) i) ∙ ap (protocol.emptied D k) (stored-slot i) in
+      ∙ emptied-view (t .table) i (slotOf (stored t c k rule) i)
+      ∙ ap (protocol.emptied D (t .table) k i) (stored-slot i) in
       λ j. record { last = k; table = Rattle.flow.specs.Changes.changed rule (t .table); slots = λ i. slot i j }
 
   -- a quorum is a quorum, for a number above the last applied one
   module _ (above : t .last < k) where
     quorum-view : isQuorum (t .n) k rule (stored t c k rule .slots)
-        ≡ leb (D .quorum) (protocol.agreeing D k rule (protocol.stored (viewSwitch t) c k rule .slots))
+        ≡ leb (D .quorum (t .table)) (protocol.agreeing D k rule (protocol.stored (viewSwitch t) c k rule .slots))
     quorum-view =
         let w = within (stored t c k rule) (stored-kept t c k rule ok known above) in
         let count = counted-below k rule (stored t c k rule .slots) (t .n) (omega arith)
         (length-set (t .slots) c (slotFor k rule) ∙ long) (w .few) (w .unused) in
-        rw (count, n) (ap (λ (slots : ℕ → protocol.Slot Rule). leb (D .quorum) (protocol.agreeing D k rule slots))
+        rw (count, n)
+        (ap (λ (slots : ℕ → protocol.Slot Rule). leb (D .quorum (t .table)) (protocol.agreeing D k rule slots))
         (λ j i. stored-slot i j))
 
     taken-view : viewReply (taken t c k rule) ≡ protocol.taken D (viewSwitch t) c k rule
     taken-view =
         by-bool (holds k rule (slotOf t c)) (λ e. rw e)
         (λ e. rw (e, quorum-view) (by-bool
-        (leb (D .quorum) (protocol.agreeing D k rule (protocol.stored (viewSwitch t) c k rule .slots)))
+        (leb (D .quorum (t .table)) (protocol.agreeing D k rule (protocol.stored (viewSwitch t) c k rule .slots)))
         (λ q. rw q (ap (λ (s : protocol.Switch Rule Table). protocol.unchanged s 1) applied-view))
         (λ q. rw q (ap (λ (s : protocol.Switch Rule Table). protocol.unchanged s 0) stored-view))))
 
@@ -107,7 +109,8 @@ module _ (S : Setting) (t : Switch) (ok : switchOk t ≡ true) (n : t .n ≡ S .
       → viewReply (takeShare t c k rule) ≡ protocol.takeShare D (viewSwitch t) c k rule
   unfolding takeShare protocol.takeShare
   share-view formed =
-      let qs = protocol.shareQuestions D (viewSwitch t) (viewSlot (slotOf t c)) k rule in
-      ap viewReply (asked (unchanged t) (taken t c k rule) 15 _ qs formed)
+      let qs = protocol.shareQuestions D (viewSwitch t) c (viewSlot (slotOf t c)) k rule in
+      ap viewReply (asked (unchanged t) (taken t c k rule) 15 _ (drop 1 qs) formed
+      ∙ sym (asked (unchanged t) (taken t c k rule) 47 true (drop 1 qs) refl))
       ∙ reply-ap viewReply qs (unchanged t) (taken t c k rule)
       ∙ reply-same qs _ _ _ (λ y. taken-view (ltb-true _ _ (answered qs refl y 16)))

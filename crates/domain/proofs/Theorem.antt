@@ -1,9 +1,9 @@
 -- Demand 3. All ends begin from setups answered 0; no call of a run within the premises is refused by question 20, and
 -- no agreed change by question 19. The last lines are the claim: after every run what the switches did is what the
--- ideal controller does, and as many full rounds as changes remain make all. Assumes nothing.
-use mathlib.Core.Path.{_≡_, ap}
+-- ideal controller does, and as many full rounds as changes remain make all.
+use mathlib.Core.Path.{_≡_, sym, ap, _∙_}
 use mathlib.Core.Bool.{true}
-use mathlib.Core.List.{List}
+use mathlib.Core.List.{List, [], _++_, append-nil}
 use Prim.Native.Nat.{ℕ, _≤_, _<_}
 use lib.ListN.{length}
 use Rattle.flow.specs.Tables.{meaning}
@@ -14,17 +14,17 @@ use Rattle.controller.specs.States as controller
 use Rattle.controller.specs.declared.Reply as controller-reply
 use Rattle.protocol.specs.Runs.{run}
 use Rattle.protocol.proofs.Orders.{lawful-agreed}
-use Rattle.domain.specs.Settings.{Setting, Valid, playbook, Keeps}
+use Rattle.domain.specs.Settings.{Decision, Setting, Valid, playbook, Keeps}
 use Rattle.domain.specs.Calls.{Call, Run, start, step}
-use Rattle.domain.specs.Premises.{Premises}
+use Rattle.domain.specs.Premises.{taken, Premises}
 use Rattle.domain.specs.Ideals.{changeOf}
-use Rattle.domain.specs.Claim.{agreed, Safe, Demand3}
+use Rattle.domain.specs.Claim.{agreed, Safe, RoundsMake, Demand3}
 use Rattle.domain.proofs.View.{domainOf}
 use Rattle.domain.proofs.Ends.{switch-set, controller-set}
 use Rattle.domain.proofs.Reached.{ranged, run-reached}
 use Rattle.domain.proofs.Room.{roomy}
 use Rattle.domain.proofs.Safety.{reached-safe}
-use Rattle.domain.proofs.Live.{all-made}
+use Rattle.domain.proofs.Live.{brought-made, taken-made}
 
 module _ (S : Setting) (v : Valid S) where
   pub switches-set : (s : ℕ) → s < 16 → switch.setupOf s (S .n) .answer ≡ 0
@@ -58,4 +58,11 @@ module _ (S : Setting) (v : Valid S) where
 
 -- the one claim
 pub demand3 : (S : Setting) → Valid S → Demand3 S
-demand3 S v = record { safe = safe S v; live = all-made S v }
+demand3 S v = record { safe = safe S v; live = brought-made S v }
+
+-- document 01's own wording: it is enough that the controllers that keep the rules have taken the same decisions
+pub same-decisions-made : (S : Setting) → Valid S → (before rest : List Call) → Premises S (before ++ rest)
+    → (ds : List Decision) → ((c : ℕ) → Keeps S c → taken c (run (step S) (start S) before .log) ≡ ds)
+    → RoundsMake S ds before rest
+same-decisions-made S v before rest p ds same =
+    taken-made S v before rest p ds (λ c keeps. ([], same c keeps ∙ sym (append-nil ds)))

@@ -9,14 +9,14 @@ use Prim.Native.Nat.{ℕ, zero, suc, _+_, _<_}
 use Rattle.flow.specs.declared.Rule.{Rule}
 use Rattle.flow.specs.declared.Table.{Table}
 use Rattle.protocol.specs.Runs.{run, Every, Sometime, Rounds}
-use Rattle.protocol.specs.Ends as protocol
-use Rattle.protocol.specs.Worlds as protocol-worlds
-use Rattle.protocol.specs.Claims as protocol-claims
+use Rattle.protocol.proofs.Ends as protocol
+use Rattle.protocol.proofs.Worlds as protocol-worlds
+use Rattle.protocol.proofs.Claims as protocol-claims
 use Rattle.protocol.proofs.Runs.{run-append, every-append}
 use Rattle.domain.specs.Settings.{Setting, Valid}
 use Rattle.domain.specs.Calls.{Call, Run, start, step}
 use Rattle.domain.specs.Premises.{InRun, Unforged, Premises}
-use Rattle.domain.specs.Rounds.{Round}
+use Rattle.domain.specs.Rounds.{Turn, Round}
 use Rattle.domain.proofs.View.{domainOf, view, seen}
 use Rattle.domain.proofs.Agreed.{change-fine}
 use Rattle.domain.proofs.Reached.{Begun, Reached, Walked, begun-early, ranged, last-small, call-seen}
@@ -100,11 +100,7 @@ module _ (S : Setting) (v : Valid S) where
       (moment-seen P Q now (step S r x) R2 xs (fair-rest r (x ∷ []) xs f) q))) h
 
   -- a full round is one of the protocol's
-  module _ (r : Run) (R : Reached S r) (first second : List Call) (f : Fair r first)
-      (g : Fair (run (step S) r first) second) (round : Round S r first second) where
-    abbrev middle : Run
-    middle = run (step S) r first
-
+  module _ (r : Run) (R : Reached S r) (xs : List Call) (f : Fair r xs) (round : Round S r xs) where
     -- the acknowledgement of a number's switch is among the calls still to come, and the share of a ready number is
     abbrev Told : ℕ → ℕ → World → Calls → Type 0
     Told c k w rest =
@@ -114,71 +110,86 @@ module _ (S : Setting) (v : Valid S) where
     Comes c k w rest = protocol-worlds.Ready D (w .controllers c) k
         → List·Memᴰ (protocol-worlds.takesShare (D .switch k) c k (D .content k)) rest
 
-    round-acknowledged : (c k : ℕ) → c < S .n → S .strays c ≡ false → protocol-worlds.Agreed D k
-        → Sometime (protocol-worlds.step D) (Told c k) (view r) (calls r first)
-    round-acknowledged c k l keeps a =
-        let s = D .switch k in
-        let known = change-fine S v (ranged S v) k a .known in
-        moment-seen _ (Told c k)
-        (λ u U begun rest p.
-        let fine = U .switches s known in
-        let small = last-small S v u U s in
-        seen-there _ _ (acknowledgement-delivered S v u s c known l fine small) u rest
-        (p (acknowledgement-answered S v u s c known l fine small)))
-        r R first f (round .acknowledged s c known (l, keeps))
+    module _ (c : ℕ) (l : c < S .n) (keeps : S .strays c ≡ false) where
+      abbrev turn : Turn S c r xs
+      turn = round c (l, keeps)
 
-    round-shared : (c k : ℕ) → c < S .n → S .strays c ≡ false → protocol-worlds.Agreed D k
-        → Sometime (protocol-worlds.step D) (Comes c k) (view middle) (calls middle second)
-    round-shared c k l keeps a =
-        let s = D .switch k in
-        let known = change-fine S v (ranged S v) k a .known in
-        moment-seen _ (Comes c k)
-        (λ u U begun rest p ready.
-        let b = begun c (l, keeps) in
-        let fine = U .controllers c (l, keeps) in
-        seen-there _ _ (share-delivered S v u c l (ranged S v) _ (b .0) (b .1) fine k ready) u rest
-        (p (share-answered S v u c l (ranged S v) _ (b .0) (b .1) fine k ready)))
-        middle (walked r R first f .reached) second g (round .shared s c known (l, keeps))
+      abbrev middle : Run
+      middle = run (step S) r (turn .first)
 
-    round-seen : protocol-claims.Round D (view r) (calls r first) (calls middle second)
-    round-seen = record {
-      acknowledged = round-acknowledged;
-      shared = λ c k l keeps a.
-          subst (λ w. Sometime (protocol-worlds.step D) (Comes c k) w (calls middle second))
-          (walked r R first f .is) (round-shared c k l keeps a);
-    }
+      both : Fair r (turn .first ++ turn .second)
+      both = subst (Fair r) (turn .cut) f
+
+      early : Fair r (turn .first)
+      early = fair-first r (turn .first) (turn .second) both
+
+      turn-acknowledged : (k : ℕ) → protocol-worlds.Agreed D k
+          → Sometime (protocol-worlds.step D) (Told c k) (view r) (calls r (turn .first))
+      turn-acknowledged k a =
+          let s = D .switch k in
+          let known = change-fine S v (ranged S v) k a .known in
+          moment-seen _ (Told c k)
+          (λ u U begun rest p.
+          let fine = U .switches s known in
+          let small = last-small S v u U s in
+          seen-there _ _ (acknowledgement-delivered S v u s c known l fine small) u rest
+          (p (acknowledgement-answered S v u s c known l fine small)))
+          r R (turn .first) early (turn .acknowledged s known)
+
+      turn-shared : (k : ℕ) → protocol-worlds.Agreed D k
+          → Sometime (protocol-worlds.step D) (Comes c k) (view middle) (calls middle (turn .second))
+      turn-shared k a =
+          let s = D .switch k in
+          let known = change-fine S v (ranged S v) k a .known in
+          moment-seen _ (Comes c k)
+          (λ u U begun rest p ready.
+          let b = begun c (l, keeps) in
+          let fine = U .controllers c (l, keeps) in
+          seen-there _ _ (share-delivered S v u c l (ranged S v) _ (b .0) (b .1) fine k ready) u rest
+          (p (share-answered S v u c l (ranged S v) _ (b .0) (b .1) fine k ready)))
+          middle (walked r R (turn .first) early .reached) (turn .second)
+          (fair-rest r (turn .first) (turn .second) both) (turn .shared s known)
+
+    round-seen : protocol-claims.Round D (view r) (calls r xs)
+    round-seen c i serves =
+        let l = serves .known in
+        let keeps = serves .keeps in
+        let t = round c (l, keeps) in
+        record {
+          first = calls r (t .first);
+          second = calls (middle c l keeps) (t .second);
+          cut = ap (calls r) (t .cut) ∙ seen-append r (t .first) (t .second);
+          acknowledged = turn-acknowledged c l keeps;
+          shared = λ k still.
+              subst (λ w. Sometime (protocol-worlds.step D) (Comes c k) w (calls (middle c l keeps) (t .second)))
+              (walked r R (t .first) (early c l keeps) .is) (turn-shared c l keeps k (still .agreed));
+        }
 
   -- and so are any number of rounds, one after the other
   pub rounds-seen : (k : ℕ) (r : Run) → Reached S r → (xs : List Call) → Fair r xs
       → Rounds (step S) (Round S) k r xs
       → Rounds (protocol-worlds.step D) (protocol-claims.Round D) k (view r) (calls r xs)
   rounds-seen zero r R xs f rounds = tt
-  rounds-seen (suc k) r R xs f (gap, first, second, rest, cut, round, more) =
+  rounds-seen (suc k) r R xs f (gap, turns, rest, cut, round, more) =
       let f0 = subst (Fair r) cut f in
       let a = run (step S) r gap in
-      let b = run (step S) a first in
-      let c = run (step S) b second in
-      let f1 = fair-rest r gap (first ++ (second ++ rest)) f0 in
-      let f2 = fair-rest a first (second ++ rest) f1 in
-      let ff = fair-first a first (second ++ rest) f1 in
-      let fs = fair-first b second rest f2 in
-      let wa = walked r R gap (fair-first r gap (first ++ (second ++ rest)) f0) in
-      let wb = walked a (wa .reached) first ff in
-      let wc = walked b (wb .reached) second fs in
-      let pieces : calls r xs ≡ calls r gap ++ (calls a first ++ (calls b second ++ calls c rest)) =
+      let b = run (step S) a turns in
+      let f1 = fair-rest r gap (turns ++ rest) f0 in
+      let ft = fair-first a turns rest f1 in
+      let wa = walked r R gap (fair-first r gap (turns ++ rest) f0) in
+      let wb = walked a (wa .reached) turns ft in
+      let pieces : calls r xs ≡ calls r gap ++ (calls a turns ++ calls b rest) =
       ap (calls r) cut
-      ∙ seen-append r gap (first ++ (second ++ rest))
-      ∙ ap (λ l. calls r gap ++ l) (seen-append a first (second ++ rest)
-      ∙ ap (λ l. calls a first ++ l) (seen-append b second rest)) in
-      let end : view c ≡ runs (runs (runs (view r) (calls r gap)) (calls a first)) (calls b second) =
-      wc .is ∙ ap (λ w. runs w (calls b second)) (wb .is ∙ ap (λ w. runs w (calls a first)) (wa .is)) in (
+      ∙ seen-append r gap (turns ++ rest)
+      ∙ ap (λ l. calls r gap ++ l) (seen-append a turns rest) in
+      let end : view b ≡ runs (runs (view r) (calls r gap)) (calls a turns) =
+      wb .is ∙ ap (λ w. runs w (calls a turns)) (wa .is) in (
         calls r gap,
-        calls a first,
-        calls b second,
-        calls c rest,
+        calls a turns,
+        calls b rest,
         pieces,
-        subst (λ w. protocol-claims.Round D w (calls a first) (calls b second)) (wa .is)
-            (round-seen a (wa .reached) first second ff fs round),
-        subst (λ w. Rounds (protocol-worlds.step D) (protocol-claims.Round D) k w (calls c rest)) end
-            (rounds-seen k c (wc .reached) rest (fair-rest b second rest f2) more),
+        subst (λ w. protocol-claims.Round D w (calls a turns)) (wa .is)
+            (round-seen a (wa .reached) turns ft round),
+        subst (λ w. Rounds (protocol-worlds.step D) (protocol-claims.Round D) k w (calls b rest)) end
+            (rounds-seen k b (wb .reached) rest (fair-rest a turns rest f1) more),
       )

@@ -21,8 +21,8 @@ use Rattle.controller.specs.declared.Undone.{Undone}
 use Rattle.controller.proofs.Waiting.{undoneAt, Stands, Readied}
 use Rattle.controller.proofs.Staying.{stands-passing}
 use Rattle.controller.proofs.Within.{within, held-fits}
-use Rattle.protocol.specs.Ends as protocol
-use Rattle.protocol.specs.Worlds.{Agreed, Ready}
+use Rattle.protocol.proofs.Ends as protocol
+use Rattle.protocol.proofs.Worlds.{Agreed, Ready}
 use Rattle.domain.specs.Settings.{Decision, Setting, Valid, playbook}
 use Rattle.domain.specs.Agreement.{agreedChanges}
 use Rattle.domain.specs.Ideals.{changeOf}

@@ -1,7 +1,7 @@
 -- A setting as a domain of the protocol, a run as a world of it, and a call of the run as the protocol's. Here nothing
 -- is claimed.
 use mathlib.Core.Path.{_≡_}
-use mathlib.Core.Bool.{Bool, _&&_, _||_}
+use mathlib.Core.Bool.{Bool, true, _&&_, _||_}
 use mathlib.Core.List.{List, [], _∷_}
 use Prim.Native.Nat.{ℕ}
 use lib.Dec.{ltb, eqb}
@@ -32,9 +32,9 @@ use Rattle.controller.specs.Writing.{shareFor, shareWritten}
 use Rattle.controller.specs.Calls as controller-calls
 use Rattle.controller.specs.declared.Controller.{Controller}
 use Rattle.controller.specs.declared.Undone.{Undone}
-use Rattle.protocol.specs.Ends as protocol
-use Rattle.protocol.specs.Worlds as protocol-worlds
-use Rattle.protocol.specs.Worlds.{World}
+use Rattle.protocol.proofs.Ends as protocol
+use Rattle.protocol.proofs.Worlds as protocol-worlds
+use Rattle.protocol.proofs.Worlds.{World}
 use Rattle.domain.specs.Settings.{Setting, switchKeys, controllerKeys}
 use Rattle.domain.specs.Calls.{Call, atSwitch, atController, Done, Run, step}
 use Rattle.domain.specs.Ideals.{changeOf}
@@ -44,12 +44,11 @@ use Rattle.domain.specs.Claim.{agreed}
 abbrev pub related : Undone → Undone → Bool
 related u v = sameFlow u v || sameSwitch u v
 
--- the agreed changes by number, rules as contents, flow tables as tables
+-- the agreed changes by number, rules as contents, flow tables as tables, every controller a member
 abbrev pub domainOf : Setting → protocol.Domain Rule Table
 domainOf S = record {
   controllers = S .n;
   strays = S .strays;
-  quorum = quorumOf (S .n);
   total = length (agreed S);
   switch = λ k. changeOf (agreed S) k .switch;
   content = λ k. changeOf (agreed S) k .rule;
@@ -59,6 +58,8 @@ domainOf S = record {
   empty = tableOf [];
   apply = changed;
   room = λ r t. roomFor r (meaning t);
+  member = λ t c. true;
+  quorum = λ t. quorumOf (S .n);
 }
 
 -- the states of the ends

@@ -18,7 +18,7 @@ use Rattle.protocol.specs.Orders.{falling}
 use Rattle.protocol.specs.Runs.{run, Rounds}
 use Rattle.domain.specs.Settings.{Decision, Setting, playbook, Keeps}
 use Rattle.domain.specs.Calls.{Call, atSwitch, atController, Done, Run, start, step}
-use Rattle.domain.specs.Premises.{taken, Premises}
+use Rattle.domain.specs.Premises.{brought, Premises}
 use Rattle.domain.specs.Agreement.{agreedChanges}
 use Rattle.domain.specs.Ideals.{fed}
 use Rattle.domain.specs.Rounds.{Round}
@@ -84,13 +84,22 @@ module _ (S : Setting) where
   abbrev pub unmade : List Undone → Run → ℕ
   unmade us r = count (λ u. not (isAmong (u .number) (answered r))) us
 
+  -- each controller that keeps the rules was brought at least these decisions, a beginning of the agreed list, and some
+  -- perhaps more
+  abbrev pub AllBrought : List Decision → Run → Type 0
+  AllBrought ds r = (c : ℕ) → Keeps S c → (more : List Decision) × (brought c (r .log) ≡ ds ++ more)
+
+  -- as many full rounds as changes of these decisions are unmade, with any calls within, between and after them, make
+  -- all of these
+  abbrev pub RoundsMake : List Decision → List Call → List Call → Type 0
+  RoundsMake ds before rest =
+      Rounds (step S) (Round S) (unmade (agreedChanges (playbook S) ds) (run (step S) (start S) before))
+      (run (step S) (start S) before) rest
+      → (u : Undone) → List·Memᴰ u (agreedChanges (playbook S) ds)
+      → isAmong (u .number) (answered (run (step S) (start S) (before ++ rest))) ≡ true
+
   pub record Demand3 : Type 0 where
     pub safe : (calls : List Call) → Premises S calls → Safe (run (step S) (start S) calls)
-    -- once the controllers that keep the rules have taken the same decisions, as many full rounds as agreed changes of
-    -- these remain unmade, with any calls within, between and after them, make all of these
+    -- once all were brought the decisions ds, full rounds make the changes of these
     pub live : (before rest : List Call) → Premises S (before ++ rest) → (ds : List Decision)
-        → ((c : ℕ) → Keeps S c → taken c (run (step S) (start S) before .log) ≡ ds)
-        → Rounds (step S) (Round S) (unmade (agreedChanges (playbook S) ds) (run (step S) (start S) before))
-        (run (step S) (start S) before) rest
-        → (u : Undone) → List·Memᴰ u (agreedChanges (playbook S) ds)
-        → isAmong (u .number) (answered (run (step S) (start S) (before ++ rest))) ≡ true
+        → AllBrought ds (run (step S) (start S) before) → RoundsMake ds before rest

@@ -1,6 +1,6 @@
 -- Full rounds (document 01, "Controller end", the round). Assumes nothing.
 use mathlib.Core.Path.{_≡_}
-use mathlib.Core.List.{List, List·Memᴰ}
+use mathlib.Core.List.{List, _++_, List·Memᴰ}
 use Prim.Native.Nat.{ℕ, _<_}
 use lib.ListN.{replicate}
 use Rattle.message.specs.Layout.{shareLength, acknowledgementLength}
@@ -28,11 +28,17 @@ module _ (S : Setting) where
   abbrev pub Delivered : (Run → ℕ × List ℕ) → (List ℕ → Call) → Run → List Call → Type 0
   Delivered now receives = Sometime (step S) (λ v rest. now v .0 ≡ 0 → List·Memᴰ (receives (now v .1)) rest)
 
-  -- first each switch's acknowledgement reaches every controller that keeps the rules, then each such controller's
-  -- share for each switch reaches it
-  pub record Round (r : Run) (first second : List Call) : Type 0 where
-    pub acknowledged : (s c : ℕ) → s < 16 → Keeps S c
+  -- first each switch's acknowledgement reaches a controller, then its share for each switch reaches that
+  pub record Turn (c : ℕ) (r : Run) (calls : List Call) : Type 0 where
+    pub first : List Call
+    pub second : List Call
+    pub cut : calls ≡ first ++ second
+    pub acknowledged : (s : ℕ) → s < 16
         → Delivered (λ v. acknowledgementNow v s c) (λ bytes. atController c (controller-calls.receives bytes)) r first
-    pub shared : (s c : ℕ) → s < 16 → Keeps S c
+    pub shared : (s : ℕ) → s < 16
         → Delivered (λ v. shareNow v c s) (λ bytes. atSwitch s (switch-calls.receives bytes))
         (run (step S) r first) second
+
+  -- so at every controller that keeps the rules; where its first half ends may differ from controller to controller
+  abbrev pub Round : Run → List Call → Type 0
+  Round r calls = (c : ℕ) → Keeps S c → Turn c r calls

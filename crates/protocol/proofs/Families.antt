@@ -1,7 +1,7 @@
 -- Laws of families: what holds of the new value and of the others holds of an update; counting below a bound, and the
 -- pigeonhole. Assumes nothing.
-use mathlib.Core.Path.{_≡_, refl, sym, _∙_, subst}
-use mathlib.Core.Bool.{Bool, true, false, not}
+use mathlib.Core.Path.{_≡_, refl, sym, ap, _∙_, subst}
+use mathlib.Core.Bool.{Bool, true, false, not, _&&_}
 use mathlib.Core.List.{List, [], _∷_}
 use Prim.Native.Nat.{ℕ, zero, suc, _+_, _≤_, _<_}
 use native.Mathlib.Omega.{arith}
@@ -69,6 +69,20 @@ count-not zero p = refl
 count-not (suc n) p =
     let less = count-not n p in
     by-bool (p n) (λ e. rw e (omega arith)) (λ e. rw e (omega arith))
+
+-- those that pass p, by q
+pub count-both : (n : ℕ) (p q : ℕ → Bool)
+    → countBelow n (λ i. p i && q i) + countBelow n (λ i. p i && not (q i)) ≡ countBelow n p
+unfolding countBelow
+count-both zero p q = refl
+count-both (suc n) p q =
+    let less = count-both n p q in
+    by-bool (p n) (λ e. by-bool (q n) (λ f. rw (e, f) (omega arith)) (λ f. rw (e, f) (omega arith))) (λ e. rw e less)
+
+pub count-every : (n : ℕ) (p : ℕ → Bool) → ((i : ℕ) → i < n → p i ≡ true) → countBelow n p ≡ n
+unfolding countBelow
+count-every zero p h = refl
+count-every (suc n) p h = rw (h n (omega arith)) (ap suc (count-every n p (λ i l. h i (omega arith))))
 
 pub count-none : (n : ℕ) (p : ℕ → Bool) → ((i : ℕ) → i < n → p i ≡ false) → countBelow n p ≡ 0
 unfolding countBelow

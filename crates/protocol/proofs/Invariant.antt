@@ -1,17 +1,18 @@
 -- What holds between calls. A number is sound at a switch where it is agreed there, with its content, and all that it
--- waits for is applied. Whatever a controller that keeps the rules wrote, or has in a slot, is sound; a quorum has such
--- a member; so what is applied is sound, and nothing is skipped. Assumes nothing.
+-- waits for is applied. Whatever a controller that keeps the rules wrote, or has in a slot, is sound; only members have
+-- slots that are not empty, and a quorum has a member that keeps the rules; so what is applied is sound, and nothing is
+-- skipped. Assumes nothing.
 use mathlib.Core.Path.{_≡_, refl, subst}
-use mathlib.Core.Bool.{true, false}
+use mathlib.Core.Bool.{true, false, _&&_}
 use mathlib.Core.List.{List·Memᴰ, List·Memᴰ·not-nil}
 use Prim.Native.Nat.{ℕ, _≤_, _<_}
 use native.Mathlib.Omega.{arith}
 use borrow.Author.Tests.{eqb-true}
-use Rattle.answer.proofs.Bools.{tf, is-false, and-parts}
+use Rattle.answer.proofs.Bools.{tf, is-false, and-parts, and-join}
 use Rattle.lists.specs.Kinds.{among, isAmong}
-use Rattle.protocol.specs.Ends.{Domain, Slot, slotFor, holds, agreeing}
-use Rattle.protocol.specs.Worlds.{Message, share, acknowledgement, World, start, Agreed}
-use Rattle.protocol.specs.Claims.{Laws, numbers, tableAfter, Safe}
+use Rattle.protocol.proofs.Ends.{Domain, Slot, slotFor, holds, agreeing}
+use Rattle.protocol.proofs.Worlds.{Message, share, acknowledgement, World, start, Trusted, Agreed}
+use Rattle.protocol.proofs.Claims.{Laws, numbers, tableAfter, Safe}
 use Rattle.protocol.proofs.Families.{pigeon, count-none}
 
 module _ {Content Table : Type 0} where
@@ -44,19 +45,31 @@ module _ {Content Table : Type 0} where
     message-grows h (share c s k x) g = sound-grows h g
     message-grows h (acknowledgement s c k) g = omega (arith, h s)
 
-    -- a slot is empty, or above the last applied number, and sound if its controller keeps the rules
-    abbrev pub SoundSlot : (ℕ → ℕ) → ℕ → ℕ → Slot Content → Type 0
-    SoundSlot a s c slot = 0 < slot .number
-        → (a s < slot .number) × (D .strays c ≡ false → Sound a s (slot .number) (slot .content))
+    -- a slot is empty, or above the last applied number and a member's, and sound if its controller keeps the rules
+    abbrev pub SoundSlot : (ℕ → ℕ) → ℕ → Table → ℕ → Slot Content → Type 0
+    SoundSlot a s t c slot = 0 < slot .number
+        → (a s < slot .number) × (D .member t c ≡ true)
+        × (D .strays c ≡ false → Sound a s (slot .number) (slot .content))
 
     pub record Invariant (w : World Content Table) : Type 0 where
       pub given : (c : ℕ) → w .controllers c .last ≤ D .total
       pub behind : (c s : ℕ) → w .controllers c .acknowledged s ≤ lasts w s
       pub written : (m : Message Content) → List·Memᴰ m (w .written) → SoundMessage (lasts w) m
-      pub held : (s c : ℕ) → SoundSlot (lasts w) s c (w .switches s .slots c)
-      pub short : (s k : ℕ) (x : Content) → 0 < k → agreeing D k x (w .switches s .slots) < D .quorum
+      pub trusted : (s : ℕ) → Trusted D (w .switches s .table)
+      pub held : (s c : ℕ) → SoundSlot (lasts w) s (w .switches s .table) c (w .switches s .slots c)
+      pub short : (s k : ℕ) (x : Content) → 0 < k
+          → agreeing D k x (w .switches s .slots) < D .quorum (w .switches s .table)
       pub safe : Safe D (w .switches) (w .made)
       pub all-made : (k : ℕ) → Agreed D k → k ≤ lasts w (D .switch k) → isAmong k (numbers D (w .made)) ≡ true
+
+    -- some member keeps the rules
+    pub trusted-keeper : (t : Table) → Trusted D t
+        → (c : ℕ) × (c < D .controllers) × (D .member t c ≡ true) × (D .strays c ≡ false)
+    trusted-keeper t h =
+        let one = pigeon (D .controllers) (D .member t) (λ c. D .member t c && D .strays c)
+        (omega (arith, h .too-few, h .enough)) in
+        let c = one .0 in
+        (c, one .1, one .2, is-false (D .strays c) (λ e. tf (and-join (D .member t c) _ (one .2) e) (one .3)))
 
     module _ (L : Laws D) where
       -- a slot that holds a number and content
@@ -73,11 +86,12 @@ module _ {Content Table : Type 0} where
         given = λ c. omega arith;
         behind = λ c s. omega arith;
         written = λ m h. absurd (List·Memᴰ·not-nil h);
+        trusted = λ s. L .trusted;
         held = λ s c h. absurd (omega arith);
         short = λ s k x h.
             let none = count-none (D .controllers) (λ c. holds D k x (slotFor 0 (D .none)))
             (λ c l. is-false _ (λ e. omega (arith, holds-sound k x (slotFor 0 (D .none)) e .0))) in
-            omega (arith, L .too-few);
+            omega (arith, L .trusted .too-few);
         safe = record {
           carried = λ m h. absurd (List·Memᴰ·not-nil h);
           lawful = tt;
@@ -89,12 +103,14 @@ module _ {Content Table : Type 0} where
       }
 
       -- a quorum has a member that keeps the rules, so what it holds is sound
-      pub quorum-sound : (a : ℕ → ℕ) (s : ℕ) (slots : ℕ → Slot Content) (k : ℕ) (x : Content)
-          → ((c : ℕ) → SoundSlot a s c (slots c)) → 0 < k → D .quorum ≤ agreeing D k x slots → Sound a s k x
-      quorum-sound a s slots k x held positive quorum =
-          let member = pigeon (D .controllers) (λ c. holds D k x (slots c)) (D .strays) (omega (arith, L .too-few)) in
-          let c = member .0 in
-          let is = holds-sound k x (slots c) (member .2) in
-          let g = held c (rw (is .0) positive) .1 (member .3) in
+      pub quorum-sound : (a : ℕ → ℕ) (s : ℕ) (t : Table) (slots : ℕ → Slot Content) (k : ℕ) (x : Content) → Trusted D t
+          → ((c : ℕ) → SoundSlot a s t c (slots c)) → 0 < k → D .quorum t ≤ agreeing D k x slots → Sound a s k x
+      quorum-sound a s t slots k x trusted held positive quorum =
+          let one = pigeon (D .controllers) (λ c. holds D k x (slots c)) (λ c. D .member t c && D .strays c)
+          (omega (arith, trusted .too-few)) in
+          let c = one .0 in
+          let is = holds-sound k x (slots c) (one .2) in
+          let h = held c (rw (is .0) positive) in
+          let g = h .2 (is-false (D .strays c) (λ e. tf (and-join (D .member t c) _ (h .1) e) (one .3))) in
           subst (λ (y : Content). Sound a s k y) (is .1)
           (subst (λ (i : ℕ). Sound a s i (slots c .content)) (is .0) g)

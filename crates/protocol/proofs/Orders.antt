@@ -11,9 +11,9 @@ use Rattle.answer.specs.Ask.{pick}
 use Rattle.answer.proofs.Bools.{by-bool, by-or, tf, or-left, or-right, or-none, or-join}
 use Rattle.lists.specs.Kinds.{among, isAmong}
 use Rattle.protocol.specs.Orders.{insert, falling}
-use Rattle.protocol.specs.Ends.{Domain}
-use Rattle.protocol.specs.Worlds.{Agreed}
-use Rattle.protocol.specs.Claims.{Laws, Next, Lawful, tableAfter}
+use Rattle.protocol.proofs.Ends.{Domain}
+use Rattle.protocol.proofs.Worlds.{Agreed}
+use Rattle.protocol.proofs.Claims.{Laws, Next, Lawful, tableAfter}
 
 -- sorting keeps the members
 insert-among : (i k : ℕ) (js : List ℕ) → isAmong i (insert k js) ≡ (eqb k i || isAmong i js)

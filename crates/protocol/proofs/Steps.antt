@@ -7,14 +7,14 @@ use lib.Dec.{eqb}
 use borrow.Author.Tests.{ltb-true, ltb-false, leb-true, leb-false, eq-eqb, ne-eqb}
 use Rattle.answer.specs.Ask.{pick, firstNo}
 use Rattle.answer.proofs.Asked.{answered, reply-from}
-use Rattle.answer.proofs.Bools.{by-or, tf, pick-keeps}
+use Rattle.answer.proofs.Bools.{by-bool, by-or, or-none, tf, pick-keeps}
 use Rattle.protocol.specs.Families.{upd}
-use Rattle.protocol.specs.Ends.{Domain, Slot, Switch, Controller, Reply, slotFor, unchanged, stored, holds}
-use Rattle.protocol.specs.Ends.{agreeing, isQuorum}
-use Rattle.protocol.specs.Ends.{emptied, shareQuestions, applied, takeShare, isAbove, acknowledge}
-use Rattle.protocol.specs.Worlds.{World}
-use Rattle.protocol.specs.Worlds.{other}
-use Rattle.protocol.specs.Worlds.{atSwitch, step}
+use Rattle.protocol.proofs.Ends.{Domain, Slot, Switch, Controller, Reply, slotFor, unchanged, stored, holds}
+use Rattle.protocol.proofs.Ends.{agreeing, isQuorum}
+use Rattle.protocol.proofs.Ends.{emptied, shareQuestions, applied, takeShare, isAbove, acknowledge}
+use Rattle.protocol.proofs.Worlds.{World}
+use Rattle.protocol.proofs.Worlds.{other}
+use Rattle.protocol.proofs.Worlds.{atSwitch, step}
 use Rattle.protocol.proofs.Families.{upd-self}
 
 -- an acknowledgement: its number is above the acknowledged one, or nothing changes
@@ -38,14 +38,20 @@ module _ {Content Table : Type 0} (D : Domain Content Table) where
         made = same i;
       }
 
-  -- a slot after a number was applied: empty, or above it and as it was
-  pub emptied-at : (P : Slot Content → Type 0) (k : ℕ) (slot : Slot Content)
-      → (slot .number ≤ k → P (slotFor 0 (D .none))) → (k < slot .number → P slot) → P (emptied D k slot)
-  emptied-at P k slot empty above =
-      pick-keeps P _ _ _ (λ e. empty (leb-true _ _ e)) (λ e. above (leb-false _ _ e))
+  -- a slot after a number was applied: empty, or above it, a member's and as it was
+  pub emptied-at : (P : Slot Content → Type 0) (t : Table) (k c : ℕ) (slot : Slot Content)
+      → ((D .member t c ≡ true → slot .number ≤ k) → P (slotFor 0 (D .none)))
+      → (k < slot .number → D .member t c ≡ true → P slot) → P (emptied D t k c slot)
+  emptied-at P t k c slot empty above =
+      pick-keeps P _ _ _
+      (λ e. empty (λ m. by-or (not (D .member t c)) _ e (λ n. tf n (ap not m)) (λ l. leb-true _ _ l)))
+      (λ e.
+      let no = or-none (not (D .member t c)) _ e in
+      above (leb-false _ _ (no .1)) (by-bool (D .member t c) (λ m. m) (λ m. tf (ap not m) (no .0))))
 
   -- what a share that is taken passed
   pub record Passes (s : Switch Content Table) (c k : ℕ) (x : Content) : Type 0 where
+    pub member : D .member (s .table) c ≡ true
     pub above : s .last < k
     pub latest : s .slots c .number ≤ k
     pub same : s .slots c .number ≡ k → D .same (s .slots c .content) x ≡ true
@@ -55,16 +61,17 @@ module _ {Content Table : Type 0} (D : Domain Content Table) where
   pub data Taken (s : Switch Content Table) (c k : ℕ) (x : Content) : Reply Content Table → Type 0 where
     refused : {q : ℕ} → 10 ≤ q → Taken s c k x (unchanged s q)
     repeated : Passes s c k x → holds D k x (s .slots c) ≡ true → Taken s c k x (unchanged s 2)
-    held : Passes s c k x → agreeing D k x (stored s c k x .slots) < D .quorum
+    held : Passes s c k x → agreeing D k x (stored s c k x .slots) < D .quorum (s .table)
         → Taken s c k x (unchanged (stored s c k x) 0)
-    made : Passes s c k x → D .quorum ≤ agreeing D k x (stored s c k x .slots)
+    made : Passes s c k x → D .quorum (s .table) ≤ agreeing D k x (stored s c k x .slots)
         → Taken s c k x (unchanged (applied D (stored s c k x) k x) 1)
 
   module _ (s : Switch Content Table) (c k : ℕ) (x : Content) where
-    passes : firstNo (shareQuestions D s (s .slots c) k x) ≡ 0 → Passes s c k x
+    passes : firstNo (shareQuestions D s c (s .slots c) k x) ≡ 0 → Passes s c k x
     passes h =
-        let yes = answered (shareQuestions D s (s .slots c) k x) refl h in
+        let yes = answered (shareQuestions D s c (s .slots c) k x) refl h in
         record {
+          member = yes 47;
           above = ltb-true _ _ (yes 16);
           latest = leb-true _ _ (yes 17);
           same = λ e. by-or (not (eqb (s .slots c .number) k)) _ (yes 18)
@@ -77,7 +84,7 @@ module _ {Content Table : Type 0} (D : Domain Content Table) where
     share-cases =
         reply-from (Taken s c k x) 10 _ _ _ refl (λ q h. refused h)
         (λ y. pick-keeps (Taken s c k x) (holds D k x (s .slots c)) _ _ (λ h. repeated (passes y) h)
-        (λ h. pick-keeps (Taken s c k x) (isQuorum D k x (stored s c k x .slots)) _ _
+        (λ h. pick-keeps (Taken s c k x) (isQuorum D k x (stored s c k x)) _ _
         (λ e. made (passes y) (leb-true _ _ e))
         (λ e. held (passes y) (leb-false _ _ e))))
 

@@ -1,8 +1,5 @@
--- The protocol over abstract contents and tables: families, runs, sorted numbers, what the ends do, all ends together,
--- and what is claimed of its runs.
+-- What the whole-run claim rests on here: families, runs, sorted numbers. The protocol over abstract contents serves
+-- proofs alone, and stands in proofs/.
 pub mod Families
 pub mod Runs
 pub mod Orders
-pub mod Ends
-pub mod Worlds
-pub mod Claims

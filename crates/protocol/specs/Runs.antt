@@ -21,11 +21,11 @@ module _ {State Call : Type 0} (step : State → Call → State) where
   Sometime P r [] = P r []
   Sometime P r (x ∷ xs) = P r (x ∷ xs) ⊎ Sometime P (step r x) xs
 
-  -- k rounds, each in two halves, one after the other, with any calls before, between and after them
-  abbrev pub Rounds : (State → List Call → List Call → Type 0) → ℕ → State → List Call → Type 0
+  -- k rounds, one after the other, with any calls before, between and after them
+  abbrev pub Rounds : (State → List Call → Type 0) → ℕ → State → List Call → Type 0
   Rounds Round zero r calls = Unit {0}
   Rounds Round (suc k) r calls =
-      (gap : List Call) × (first : List Call) × (second : List Call) × (rest : List Call)
-      × (calls ≡ gap ++ (first ++ (second ++ rest)))
-      × Round (run r gap) first second
-      × Rounds Round k (run (run (run r gap) first) second) rest
+      (gap : List Call) × (round : List Call) × (rest : List Call)
+      × (calls ≡ gap ++ (round ++ rest))
+      × Round (run r gap) round
+      × Rounds Round k (run (run r gap) round) rest

@@ -6,7 +6,7 @@ use mathlib.Core.List.{List, [], _∷_, _++_, map, reverse, List·Memᴰ, List·
 use mathlib.Core.Logic.{_⊎_, inl, inr, ⊎-elim}
 use Prim.Native.Nat.{ℕ, zero, suc, _<_}
 use native.Mathlib.Omega.{arith}
-use lib.Dec.{leb, eqb}
+use lib.Dec.{leb}
 use lib.ListN.{length, getD, take, drop, take-append-drop}
 use borrow.Author.Tests.{leb-true}
 use Rattle.answer.proofs.Bools.{by-bool, by-eq, and-parts, tf}
@@ -206,7 +206,8 @@ whole-fair = rounds-follow evening valid evening-calls fair 1
 
 near-made : isAmong 2 (answered evening (after whole-evening)) ≡ true
 near-made =
-    let ends = brought-to-end evening valid evening-calls fair (outage ∷ []) (decided-once (λ a. eqb a 0) refl) in
+    let ends = brought-to-end evening valid evening-calls fair (outage ∷ [])
+    (λ c keeps. ([], decided-once isBrought refl c keeps)) in
     rw remain at (ends (numbered 1 2 near) (rw agreed-are (List·Memᴰ·tail (List·Memᴰ·head refl))))
 
 safe : Safe evening (after whole-evening)

@@ -22,14 +22,14 @@ use Rattle.controller.specs.Writing.{shareOf, shareFor}
 use Rattle.controller.specs.declared.Undone.{Undone}
 use Rattle.controller.proofs.Sent.{allowed}
 use Rattle.protocol.specs.Runs.{run, Sometime, Rounds}
-use Rattle.protocol.proofs.Runs.{run-append, now, later}
+use Rattle.protocol.proofs.Runs.{now, later}
 use Rattle.domain.specs.Settings.{Decision, Setting, Valid, playbook, Keeps, switchKeys, controllerKeys}
 use Rattle.domain.specs.Calls.{Call, atSwitch, atController, Run, start, step}
-use Rattle.domain.specs.Premises.{SwitchWrote, ControllerWrote, taken, InRun, Unforged, Premises}
+use Rattle.domain.specs.Premises.{SwitchWrote, ControllerWrote, InRun, Unforged, Premises}
 use Rattle.domain.specs.Premises as premises
 use Rattle.domain.specs.Agreement.{agreedChanges}
 use Rattle.domain.specs.Rounds.{acknowledgementNow, shareNow, Delivered, Round}
-use Rattle.domain.specs.Claim.{answered, unmade}
+use Rattle.domain.specs.Claim.{answered, unmade, AllBrought}
 use Rattle.domain.proofs.AtController.{share-there}
 use Rattle.domain.proofs.Reached.{Begun, Reached, ranged, last-small, run-reached}
 use Rattle.domain.proofs.Delivered.{acknowledgement-answered}
@@ -184,28 +184,21 @@ module _ (S : Setting) (v : Valid S) where
         (λ u rest. now (step S) Sent u (shares S s u c ++ rest) (λ e.
         rw (keeps .1, eq-eqb (shareNow S u c s .0) 0 e) (List·Memᴰ·tail (List·Memᴰ·head refl))))) r [])
 
-  round-full : (r : Run) → Round S r (firstHalf S r) (secondHalf S (run (step S) r (firstHalf S r)))
-  round-full r = record {
-    acknowledged = λ s c l keeps. told s c l keeps r;
-    shared = λ s c l keeps. sent s c l keeps (run (step S) r (firstHalf S r));
+  round-full : (r : Run) → Round S r (round S r)
+  round-full r c keeps = record {
+    first = firstHalf S r;
+    second = secondHalf S (run (step S) r (firstHalf S r));
+    cut = refl;
+    acknowledged = λ s l. told s c l keeps r;
+    shared = λ s l. sent s c l keeps (run (step S) r (firstHalf S r));
   }
 
   pub rounds-full : (k : ℕ) (r : Run) → Rounds (step S) (Round S) k r (rounds S k r)
   unfolding rounds
   rounds-full zero r = tt
   rounds-full (suc k) r =
-      let first = firstHalf S r in
-      let second = secondHalf S (run (step S) r first) in
-      let rest = rounds S k (run (step S) r (round S r)) in (
-        [],
-        first,
-        second,
-        rest,
-        append-assoc first second rest,
-        round-full r,
-        subst (λ u. Rounds (step S) (Round S) k u rest) (run-append (step S) r first second)
-            (rounds-full k (run (step S) r (round S r))),
-      )
+      let after = run (step S) r (round S r) in
+      ([], round S r, rounds S k after, refl, round-full r, rounds-full k after)
 
   module _ (calls : List Call) (p : Premises S calls) where
     abbrev reached : Run
@@ -216,8 +209,8 @@ module _ (S : Setting) (v : Valid S) where
     rounds-follow k =
         premises-join S v calls _ p (rounds-fair k reached (run-reached S v calls p) (p .beginning))
 
-    -- and so, where the controllers have taken the same decisions, to where all changes of these are made
-    pub brought-to-end : (ds : List Decision) → ((c : ℕ) → Keeps S c → taken c (reached .log) ≡ ds)
+    -- and so, where the controllers were brought the same decisions, to where all changes of these are made
+    pub brought-to-end : (ds : List Decision) → AllBrought S ds reached
         → (u : Undone) → List·Memᴰ u (agreedChanges (playbook S) ds)
         → isAmong (u .number) (answered S (run (step S) (start S)
         (calls ++ rounds S (unmade S (agreedChanges (playbook S) ds) reached) reached))) ≡ true

@@ -1,6 +1,6 @@
 -- The ends over abstract contents and tables: what a switch does with a share, and a controller with an
--- acknowledgement. The questions have document 01's numbers. s is a switch, c a controller, k a number, x a content.
--- Assumes nothing.
+-- acknowledgement. The questions have document 01's numbers; 47, whether the sender is a member, is document 02's, and
+-- always answered yes where every controller is one. s is a switch, c a controller, k a number, x a content.
 use Prim.Native.Nat.{ℕ}
 use mathlib.Core.Bool.{Bool, not, _&&_, _||_}
 use mathlib.Core.List.{List, [], _∷_}
@@ -8,12 +8,12 @@ use lib.Dec.{ltb, leb, eqb}
 use Rattle.answer.specs.Ask.{Question, pick, reply}
 use Rattle.protocol.specs.Families.{upd, countBelow}
 
--- What is fixed before a run: the controllers and which of them stray, the quorum, the agreed changes, whose numbers
--- are those from 1 to total, and what contents and tables are.
+-- What is fixed before a run: the controllers and which of them stray, the agreed changes, whose numbers are those from
+-- 1 to total, and what contents and tables are. A table is all of a switch that changes alter: its members and the
+-- quorum follow from it.
 pub record Domain (Content Table : Type 0) : Type 0 where
   pub controllers : ℕ
   pub strays : ℕ → Bool
-  pub quorum : ℕ
   pub total : ℕ
   -- the switch and the content of a number, and whether the first number has to wait for the second
   pub switch : ℕ → ℕ
@@ -25,6 +25,9 @@ pub record Domain (Content Table : Type 0) : Type 0 where
   pub empty : Table
   pub apply : Content → Table → Table
   pub room : Content → Table → Bool
+  -- whether a controller is a member, and how many of them have to agree
+  pub member : Table → ℕ → Bool
+  pub quorum : Table → ℕ
 
 -- the latest share held from a controller; number 0 marks an empty slot
 pub record Slot (Content : Type 0) : Type 0 where
@@ -66,34 +69,39 @@ module _ {Content Table : Type 0} where
     abbrev pub agreeing : ℕ → Content → (ℕ → Slot Content) → ℕ
     agreeing k x slots = countBelow (D .controllers) (λ c. holds k x (slots c))
 
-    abbrev pub isQuorum : ℕ → Content → (ℕ → Slot Content) → Bool
-    isQuorum k x slots = leb (D .quorum) (agreeing k x slots)
+    abbrev pub isQuorum : ℕ → Content → Switch Content Table → Bool
+    isQuorum k x s = leb (D .quorum (s .table)) (agreeing k x (s .slots))
 
-    -- a slot with this number or a lower one is emptied
-    abbrev pub emptied : ℕ → Slot Content → Slot Content
-    emptied k slot = pick (leb (slot .number) k) (slotFor 0 (D .none)) slot
+    -- the slot of a controller that is no member is emptied, and so is one with this number or a lower one
+    abbrev pub emptied : Table → ℕ → ℕ → Slot Content → Slot Content
+    emptied t k c slot = pick (not (D .member t c) || leb (slot .number) k) (slotFor 0 (D .none)) slot
 
-    abbrev pub shareQuestions : Switch Content Table → Slot Content → ℕ → Content → List Question
-    shareQuestions s slot k x =
-        (16, ltb (s .last) k)
+    abbrev pub shareQuestions : Switch Content Table → ℕ → Slot Content → ℕ → Content → List Question
+    shareQuestions s c slot k x =
+        (47, D .member (s .table) c)
+        ∷ (16, ltb (s .last) k)
         ∷ (17, leb (slot .number) k)
         ∷ (18, not (eqb (slot .number) k) || D .same (slot .content) x)
         ∷ (19, D .room x (s .table))
         ∷ []
 
     abbrev pub applied : Switch Content Table → ℕ → Content → Switch Content Table
-    applied s k x = record { last = k; table = D .apply x (s .table); slots = λ c. emptied k (s .slots c) }
+    applied s k x = record {
+      last = k;
+      table = D .apply x (s .table);
+      slots = λ c. emptied (D .apply x (s .table)) k c (s .slots c);
+    }
 
     -- a stored share counted: applied at the quorum, answer 1, else held, answer 0
     abbrev pub counted : Switch Content Table → ℕ → Content → Reply Content Table
-    counted s k x = pick (isQuorum k x (s .slots)) (unchanged (applied s k x) 1) (unchanged s 0)
+    counted s k x = pick (isQuorum k x s) (unchanged (applied s k x) 1) (unchanged s 0)
 
     -- a share after all questions: equal to the slot a repeat, answer 2, else stored and counted
     abbrev pub taken : Switch Content Table → ℕ → ℕ → Content → Reply Content Table
     taken s c k x = pick (holds k x (s .slots c)) (unchanged s 2) (counted (stored s c k x) k x)
 
     unfoldable pub takeShare : Switch Content Table → ℕ → ℕ → Content → Reply Content Table
-    takeShare s c k x = reply (shareQuestions s (s .slots c) k x) (unchanged s) (taken s c k x)
+    takeShare s c k x = reply (shareQuestions s c (s .slots c) k x) (unchanged s) (taken s c k x)
 
 -- an acknowledgement that is not above the acknowledged number changes nothing
 abbrev pub isAbove : Controller → ℕ → ℕ → Bool

@@ -1,26 +1,29 @@
--- What is claimed of the protocol's runs: the premises on the domain, what holds after every run, and what full rounds
--- make. Assumes nothing.
+-- What is shown of the protocol's runs: the premises on the domain, what holds after every run, and what full rounds
+-- make. The whole-run claim has its own `Safe`, `Round` and `Made`, in domain/specs.
 use mathlib.Core.Path.{_≡_}
 use mathlib.Core.Bool.{Bool, true, false}
-use mathlib.Core.List.{List, [], _∷_, map, List·Memᴰ}
-use Prim.Native.Nat.{ℕ, _+_, _≤_, _<_}
+use mathlib.Core.List.{List, [], _∷_, _++_, map, List·Memᴰ}
+use Prim.Native.Nat.{ℕ, zero, suc, _+_, _≤_, _<_}
 use lib.Dec.{ltb, eqb}
 use Rattle.answer.specs.Ask.{pick}
 use Rattle.lists.specs.Kinds.{isAmong}
 use Rattle.protocol.specs.Families.{countBelow}
 use Rattle.protocol.specs.Runs.{run, Sometime}
-use Rattle.protocol.specs.Ends.{Domain, Switch}
-use Rattle.protocol.specs.Worlds.{Made, World, Call, takesShare, takesAcknowledgement, step, Agreed, Ready}
+use Rattle.protocol.proofs.Ends.{Domain, Switch}
+use Rattle.protocol.proofs.Worlds.{Made, World, Call, takesShare, takesAcknowledgement, step, isMember, Trusted}
+use Rattle.protocol.proofs.Worlds.{Agreed, Ready}
+
+-- the numbers from k down to 1
+unfoldable pub upTo : ℕ → List ℕ
+upTo zero = []
+upTo (suc k) = suc k ∷ upTo k
 
 module _ {Content Table : Type 0} (D : Domain Content Table) where
-  abbrev pub straying : ℕ
-  straying = countBelow (D .controllers) (D .strays)
-
-  -- Strays are too few for a quorum, and the others enough for one. A change waits only for lower numbers, and for all
+  -- Few enough stray at first, and nobody becomes a member later. A change waits only for lower numbers, and for all
   -- lower ones on its switch. The test of contents tells whether two are the same.
   pub record Laws : Type 0 where
-    pub too-few : straying < D .quorum
-    pub enough : D .quorum + straying ≤ D .controllers
+    pub trusted : Trusted D (D .empty)
+    pub none-joins : (x : Content) (t : Table) (c : ℕ) → D .member (D .apply x t) c ≡ true → D .member t c ≡ true
     pub lower : (k j : ℕ) → D .waits k j ≡ true → (0 < j) × (j < k)
     pub in-turn : (k j : ℕ) → Agreed D k → 0 < j → j < k → D .switch j ≡ D .switch k → D .waits k j ≡ true
     pub same-sound : (x y : Content) → D .same x y ≡ true → x ≡ y
@@ -41,6 +44,10 @@ module _ {Content Table : Type 0} (D : Domain Content Table) where
   tableAfter [] s = D .empty
   tableAfter (k ∷ ks) s = pick (eqb (D .switch k) s) (D .apply (D .content k) (tableAfter ks s)) (tableAfter ks s)
 
+  -- what a switch holds once the agreed changes on it up to a number are made, in their order
+  abbrev pub tableAt : ℕ → ℕ → Table
+  tableAt s k = tableAfter (upTo k) s
+
   abbrev pub numbers : List (Made Content) → List ℕ
   numbers ms = map (λ (m : Made Content). m .number) ms
 
@@ -56,16 +63,31 @@ module _ {Content Table : Type 0} (D : Domain Content Table) where
     pub lasts : (s : ℕ) → 0 < switches s .last
         → (isAmong (switches s .last) (numbers made) ≡ true) × (D .switch (switches s .last) ≡ s)
 
+  -- A controller that keeps the rules and is a member of the switch of a number.
+  pub record Serves (w : World Content Table) (c k : ℕ) : Type 0 where
+    pub known : c < D .controllers
+    pub keeps : D .strays c ≡ false
+    pub agreed : Agreed D k
+    pub member : isMember D w (D .switch k) c ≡ true
+
   -- A full round: the acknowledgement of each switch as it would write it then reaches each controller that keeps the
-  -- rules, then each such controller's share for each switch does, if it would write one then.
-  pub record Round (w : World Content Table) (first second : List (Call Content)) : Type 0 where
-    pub acknowledged : (c k : ℕ) → c < D .controllers → D .strays c ≡ false → Agreed D k
+  -- rules and is still a member of some switch after the round, then that controller's share for each switch whose
+  -- member it still is does, if it would write one then. Where the one half ends and the other begins may differ from
+  -- controller to controller.
+  pub record Turn (c : ℕ) (w : World Content Table) (calls : List (Call Content)) : Type 0 where
+    pub first : List (Call Content)
+    pub second : List (Call Content)
+    pub cut : calls ≡ first ++ second
+    pub acknowledged : (k : ℕ) → Agreed D k
         → Sometime (step D)
         (λ v rest. List·Memᴰ (takesAcknowledgement c (D .switch k) (v .switches (D .switch k) .last)) rest) w first
-    pub shared : (c k : ℕ) → c < D .controllers → D .strays c ≡ false → Agreed D k
+    pub shared : (k : ℕ) → Serves (run (step D) w calls) c k
         → Sometime (step D) (λ v rest. Ready D (v .controllers c) k
         → List·Memᴰ (takesShare (D .switch k) c k (D .content k)) rest)
         (run (step D) w first) second
+
+  abbrev pub Round : World Content Table → List (Call Content) → Type 0
+  Round w calls = (c k : ℕ) → Serves (run (step D) w calls) c k → Turn c w calls
 
   -- room for each agreed change in every table that agreed changes make
   abbrev pub Roomy : Type 0

@@ -1,13 +1,13 @@
 -- The world of all ends, its calls, and which calls the rules and the premises allow. s is a switch, c a controller,
--- k a number, x a content. Assumes nothing.
+-- k a number, x a content.
 use mathlib.Core.Path.{_≡_}
-use mathlib.Core.Bool.{true, false}
+use mathlib.Core.Bool.{Bool, true, false, _&&_}
 use mathlib.Core.List.{List, [], _∷_, List·Memᴰ}
-use Prim.Native.Nat.{ℕ, _≤_, _<_}
+use Prim.Native.Nat.{ℕ, _+_, _≤_, _<_}
 use lib.Dec.{eqb}
 use Rattle.answer.specs.Ask.{pick}
-use Rattle.protocol.specs.Families.{upd}
-use Rattle.protocol.specs.Ends.{Domain, Switch, Controller, Reply, slotFor, takeShare, acknowledge}
+use Rattle.protocol.specs.Families.{upd, countBelow}
+use Rattle.protocol.proofs.Ends.{Domain, Switch, Controller, Reply, slotFor, takeShare, acknowledge}
 
 -- what was written: a share from a controller for a switch, an acknowledgement from a switch for a controller
 pub data Message (Content : Type 0) : Type 0 where
@@ -74,6 +74,21 @@ module _ {Content Table : Type 0} where
     step w (takesAcknowledgement c s k) = atController w c (acknowledge (w .controllers c) s k)
     step w other = w
 
+    -- whether a controller is a member of a switch
+    abbrev pub isMember : World Content Table → ℕ → ℕ → Bool
+    isMember w s c = D .member (w .switches s .table) c
+
+    -- how many members stray, and how many there are: strays are too few for a quorum, the others enough for one
+    abbrev pub straying : Table → ℕ
+    straying t = countBelow (D .controllers) (λ c. D .member t c && D .strays c)
+
+    abbrev pub members : Table → ℕ
+    members t = countBelow (D .controllers) (D .member t)
+
+    pub record Trusted (t : Table) : Type 0 where
+      pub too-few : straying t < D .quorum t
+      pub enough : D .quorum t + straying t ≤ members t
+
     abbrev pub Agreed : ℕ → Type 0
     Agreed k = (0 < k) × (k ≤ D .total)
 
@@ -85,12 +100,14 @@ module _ {Content Table : Type 0} where
       pub free : (j : ℕ) → D .waits k j ≡ true → j ≤ c .acknowledged (D .switch j)
 
     -- Numbers are given in order and none past the agreed ones. A share written is that of a ready change. What a
-    -- switch takes from a controller that keeps the rules, and a controller from a switch, was written before.
+    -- switch takes from a controller that keeps the rules, and a controller from a switch, was written before. After
+    -- every share that a switch takes its members are such that few enough stray.
     abbrev pub Allowed : World Content Table → Call Content → Type 0
     Allowed w (decides c k) = (w .controllers c .last ≤ k) × (k ≤ D .total)
     Allowed w (writesShare c k) = Ready (w .controllers c) k
     Allowed w (takesShare s c k x) =
         (c < D .controllers) × (D .strays c ≡ false → List·Memᴰ (share c s k x) (w .written))
+        × Trusted (takeShare D (w .switches s) c k x .state .table)
     Allowed w (writesAcknowledgement s c) = Unit {0}
     Allowed w (takesAcknowledgement c s k) = List·Memᴰ (acknowledgement s c k) (w .written)
     Allowed w other = Unit {0}
