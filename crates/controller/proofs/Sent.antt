@@ -39,7 +39,7 @@ pub record Allowed (c : Controller) (keys : List ℕ) (s : ℕ) (frame : List �
   pub ready : readyFor c s ≡ Change change
 
 -- there is a share where a change is ready
-share-there : (id s : ℕ) (r : Ready) → isMessage (shareOf id s r) ≡ true → (u : Undone) × (r ≡ Change u)
+pub share-there : (id s : ℕ) (r : Ready) → isMessage (shareOf id s r) ≡ true → (u : Undone) × (r ≡ Change u)
 share-there id s (Change u) h = (u, refl)
 share-there id s Nothing h = tf h refl
 

@@ -1,34 +1,31 @@
 -- What an end would write now, once it is delivered, is what the protocol takes: the acknowledgement of a switch always
--- there, and the share of a change that is ready in the protocol. Assumes nothing.
+-- there, and the share of a change that is ready in the protocol.
 use mathlib.Core.Path.{_≡_, refl, sym, ap, _∙_}
 use mathlib.Core.Bool.{true}
 use mathlib.Core.List.{List, _++_}
-use Prim.Native.Nat.{ℕ, _+_, _*_, _^_, _<_}
+use Prim.Native.Nat.{ℕ, _+_, _*_, _^_, _≤_, _<_}
 use native.Mathlib.Omega.{arith}
-use lib.ListN.{take, replicate}
-use lib.Seq.{take-all}
-use borrow.Author.Tests.{lt-ltb, eq-eqb}
-use Rattle.answer.specs.Ask.{firstNo, reply}
-use Rattle.answer.proofs.Asked.{reply-ap}
-use Rattle.answer.proofs.Bools.{and-join}
+use lib.ListN.{length}
+use borrow.Author.Tests.{lt-ltb, le-leb, eq-eqb}
+use Rattle.answer.specs.Ask.{reply}
+use Rattle.answer.proofs.Bools.{and-join, and-parts}
+use Rattle.flow.specs.Rules.{ruleKey, prefixOk, portOk}
 use Rattle.flow.specs.declared.Rule.{Rule}
 use Rattle.flow.specs.declared.Table.{Table}
 use Rattle.message.specs.Keys.{keyLength, keyAt}
-use Rattle.message.specs.Layout.{shareLength, acknowledgementLength}
+use Rattle.message.specs.Layout.{acknowledgementLength}
 use Rattle.message.specs.Reading.{decode, isSealed}
+use Rattle.message.specs.Writing.{encode, isMessage}
 use Rattle.message.specs.declared.End.the-variants as ends
 use Rattle.message.specs.declared.Message.the-variants.{Share, Acknowledgement}
 use Rattle.playbook.specs.Printing.{InRange}
 use Rattle.switch.specs.Calls as switch-calls
-use Rattle.switch.specs.Writing.{acknowledgementFor, writeQuestions, written}
-use Rattle.switch.specs.declared.Reply.{Reply}
+use Rattle.switch.specs.Writing.{written, acknowledgementWritten}
 use Rattle.switch.specs.declared.Switch.{Switch}
-use Rattle.switch.proofs.Sent.{acknowledgement-sent}
 use Rattle.controller.specs.Changes.{meaning}
 use Rattle.controller.specs.Calls as controller-calls
 use Rattle.controller.specs.declared.Controller.{Controller}
 use Rattle.controller.specs.declared.Undone.{Undone}
-use Rattle.controller.proofs.Sent.{ready-sent, share-sent}
 use Rattle.controller.proofs.Waiting.{Readied, ready-found}
 use Rattle.controller.proofs.Within.{within}
 use Rattle.protocol.proofs.Ends as protocol
@@ -40,6 +37,7 @@ use Rattle.domain.specs.Claim.{agreed}
 use Rattle.domain.specs.Rounds.{acknowledgementNow, shareNow}
 use Rattle.domain.proofs.Courses.{Fine, agreed-few}
 use Rattle.domain.proofs.View.{domainOf, viewController, isFrom, seen}
+use Rattle.message.proofs.Inverse.{decode-encode, encode-sealed}
 use Rattle.message.proofs.Stores.{joined-length, joined-at}
 use Rattle.domain.proofs.Agreed.{change-fine}
 use Rattle.domain.proofs.Undone.{given-few, ready-readied}
@@ -56,49 +54,36 @@ module _ (S : Setting) (v : Valid S) where
   D = domainOf S
 
   -- the two ends of a pair have the same key
-  switch-key : (s c : ℕ) → c < S .n → keyAt (switchKeys S s) c ≡ S .key c s
+  pub switch-key : (s c : ℕ) → c < S .n → keyAt (switchKeys S s) c ≡ S .key c s
   switch-key s c l = joined-at (λ i. S .key i s) (λ i. v .keys i s) (S .n) c l
 
-  controller-key : (c s : ℕ) → s < 16 → keyAt (controllerKeys S c) s ≡ S .key c s
+  pub controller-key : (c s : ℕ) → s < 16 → keyAt (controllerKeys S c) s ≡ S .key c s
   controller-key c s l = joined-at (S .key c) (v .keys c) 16 s l
 
-  -- an acknowledgement
-  module _ (r : Run) (s c : ℕ) (l : s < 16) (known : c < S .n) (f : SwitchFine S s (r .switches s))
-      (small : r .switches s .last < 256 ^ 4) where
+  -- an acknowledgement: its switch writes it wherever it fits, and its controller takes it
+  module _ (r : Run) (s c : ℕ) (l : s < 16) (known : c < S .n) (f : SwitchFine S s (r .switches s)) where
     abbrev t : Switch
     t = r .switches s
 
-    abbrev frame : List ℕ
-    frame = replicate acknowledgementLength 0
-
-    nothing-asked : firstNo (writeQuestions t (switchKeys S s) c (acknowledgementFor t c) true frame 0) ≡ 0
-    unfolding reply
-    nothing-asked =
+    pub acknowledgement-answered : (frame : List ℕ) (at : ℕ) → at + acknowledgementLength ≤ length frame
+        → acknowledgementWritten t (switchKeys S s) c frame at .0 .answer ≡ 0
+    unfolding written reply
+    acknowledgement-answered frame at fits =
         let store = joined-length (λ i. S .key i s) (λ i. v .keys i s) (S .n)
         ∙ ap (λ (n : ℕ). keyLength * n) (sym (f .n)) in
-        rw (f .ok, eq-eqb _ _ store, lt-ltb c (t .n) (rw (f .n) known))
+        rw (f .ok, eq-eqb _ _ store, lt-ltb c (t .n) (rw (f .n) known), le-leb (at + acknowledgementLength) (length frame) fits)
 
-    pub acknowledgement-answered : acknowledgementNow S r s c .0 ≡ 0
-    unfolding written
-    acknowledgement-answered =
-        reply-ap (λ (y : Reply × List ℕ). y .0 .answer)
-        (writeQuestions t (switchKeys S s) c (acknowledgementFor t c) true frame 0) _ _
-        ∙ nothing-asked
-
-    pub acknowledgement-delivered : (u : Run)
-        → seen S u (atController c (controller-calls.receives (acknowledgementNow S r s c .1)))
+    pub acknowledgement-delivered : t .last < 256 ^ 4 → (u : Run)
+        → seen S u (atController c (controller-calls.receives (encode (S .key c s) (acknowledgementNow r s c))))
         ≡ protocol-worlds.takesAcknowledgement c s (t .last)
     unfolding seen
-    acknowledgement-delivered u =
-        let bytes = acknowledgementNow S r s c .1 in
-        let sent = acknowledgement-sent t (switchKeys S s) c frame 0 acknowledgement-answered small in
-        let whole : take acknowledgementLength bytes ≡ bytes =
-        take-all acknowledgementLength bytes (omega (arith, sent .long)) in
+    acknowledgement-delivered small u =
+        let m = acknowledgementNow r s c in
+        let bytes = encode (S .key c s) m in
         let read : decode ends.Controller bytes ≡ Acknowledgement s c (t .last) =
-        ap (decode ends.Controller) (sym whole) ∙ sent .read ∙ ap (λ (i : ℕ). Acknowledgement i c (t .last)) (f .id) in
+        decode-encode (S .key c s) m small refl ∙ ap (λ (i : ℕ). Acknowledgement i c (t .last)) (f .id) in
         let sealed : isSealed (keyAt (controllerKeys S c) s) bytes ≡ true =
-        rw (controller-key c s l ∙ sym (switch-key s c known))
-        (ap (isSealed (keyAt (switchKeys S s) c)) (sym whole) ∙ sent .sealed) in
+        rw (controller-key c s l) (encode-sealed (S .key c s) m refl) in
         rw (read, from-is 16 c (controllerKeys S c) bytes s l sealed)
 
   -- a share of a change that is ready in the protocol
@@ -121,29 +106,26 @@ module _ (S : Setting) (v : Valid S) where
     readied : Readied (u .switch) (meaning (b .undone)) u
     readied = ready-readied S v ranged c ds rest begins b f k ready
 
-    pub share-answered : shareNow S r c (u .switch) .0 ≡ 0
-    share-answered =
-        ready-sent b (controllerKeys S c) (u .switch) (replicate shareLength 0) 0 (f .ok)
-        (joined-length (S .key c) (v .keys c) 16) (fine .known) (omega arith) u
-        (ready-found (meaning (b .undone)) (within b (f .ok) .rising) (u .switch) u readied)
+    -- is there, and its switch takes it
+    pub share-there : isMessage (shareNow r c (u .switch)) ≡ true
+    share-there = rw (ready-found (meaning (b .undone)) (within b (f .ok) .rising) (u .switch) u readied)
 
     pub share-delivered : (w : Run)
-        → seen S w (atSwitch (u .switch) (switch-calls.receives (shareNow S r c (u .switch) .1)))
+        → seen S w (atSwitch (u .switch) (switch-calls.receives
+        (encode (S .key c (u .switch)) (shareNow r c (u .switch)))))
         ≡ protocol-worlds.takesShare (u .switch) c k (u .rule)
     unfolding seen
     share-delivered w =
         let s = u .switch in
-        let bytes = shareNow S r c s .1 in
+        let key = S .key c s in
+        let m = Share (b .id) s (u .number) (u .rule) in
         let few = agreed-few (playbook S) (S .agreed) in
         let n = fine .numbered in
-        let sent = share-sent b (controllerKeys S c) s (replicate shareLength 0) 0 share-answered u
-        (ready-found (meaning (b .undone)) (within b (f .ok) .rising) s u readied)
-        (omega (arith, is-agreed .1), fine .in-range .0, fine .in-range .1) in
-        let whole : take shareLength bytes ≡ bytes = take-all shareLength bytes (omega (arith, sent .long)) in
-        let read : decode ends.Switch bytes ≡ Share c s k (u .rule) =
-        ap (decode ends.Switch) (sym whole) ∙ sent .read
+        let found = ready-found (meaning (b .undone)) (within b (f .ok) .rising) s u readied in
+        let port = and-parts (prefixOk (ruleKey (u .rule))) (portOk (u .rule .action)) (fine .formed) .1 in
+        let read : decode ends.Switch (encode key m) ≡ Share c s k (u .rule) =
+        decode-encode key m (omega (arith, is-agreed .1), fine .in-range .0, fine .in-range .1) port
         ∙ (λ i. Share (f .id i) s (n i) (u .rule)) in
-        let sealed : isSealed (keyAt (switchKeys S s) c) bytes ≡ true =
-        rw (switch-key s c known ∙ sym (controller-key c s (fine .known)))
-        (ap (isSealed (keyAt (controllerKeys S c) s)) (sym whole) ∙ sent .sealed) in
-        rw (read, from-is (S .n) s (switchKeys S s) bytes c known sealed, fine .formed)
+        let sealed : isSealed (keyAt (switchKeys S s) c) (encode key m) ≡ true =
+        rw (switch-key s c known) (encode-sealed key m refl) in
+        rw (found, read, from-is (S .n) s (switchKeys S s) (encode key m) c known sealed, fine .formed)

@@ -22,8 +22,7 @@ use Rattle.domain.proofs.Agreed.{change-fine}
 use Rattle.domain.proofs.Reached.{Begun, Reached, Walked, begun-early, ranged, last-small, call-seen}
 use Rattle.domain.proofs.Reached.{call-reached}
 use Rattle.domain.proofs.Reached.{seenAll, walk}
-use Rattle.domain.proofs.Delivered.{acknowledgement-answered, acknowledgement-delivered}
-use Rattle.domain.proofs.Delivered.{share-answered, share-delivered}
+use Rattle.domain.proofs.Delivered.{acknowledgement-delivered, share-there, share-delivered}
 
 abbrev World : Type 0
 World = protocol-worlds.World Rule Table
@@ -131,9 +130,7 @@ module _ (S : Setting) (v : Valid S) where
           moment-seen _ (Told c k)
           (λ u U begun rest p.
           let fine = U .switches s known in
-          let small = last-small S v u U s in
-          seen-there _ _ (acknowledgement-delivered S v u s c known l fine small) u rest
-          (p (acknowledgement-answered S v u s c known l fine small)))
+          seen-there _ _ (acknowledgement-delivered S v u s c known l fine (last-small S v u U s)) u rest (p refl))
           r R (turn .first) early (turn .acknowledged s known)
 
       turn-shared : (k : ℕ) → protocol-worlds.Agreed D k
@@ -146,7 +143,7 @@ module _ (S : Setting) (v : Valid S) where
           let b = begun c (l, keeps) in
           let fine = U .controllers c (l, keeps) in
           seen-there _ _ (share-delivered S v u c l (ranged S v) _ (b .0) (b .1) fine k ready) u rest
-          (p (share-answered S v u c l (ranged S v) _ (b .0) (b .1) fine k ready)))
+          (p (share-there S v u c l (ranged S v) _ (b .0) (b .1) fine k ready)))
           middle (walked r R (turn .first) early .reached) (turn .second)
           (fair-rest r (turn .first) (turn .second) both) (turn .shared s known)
 

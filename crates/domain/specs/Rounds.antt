@@ -1,32 +1,31 @@
--- Full rounds (document 01, "Controller end", the round). Assumes nothing.
+-- Full rounds (document 01, "Controller end", the round).
 use mathlib.Core.Path.{_≡_}
+use mathlib.Core.Bool.{true}
 use mathlib.Core.List.{List, _++_, List·Memᴰ}
 use Prim.Native.Nat.{ℕ, _<_}
-use lib.ListN.{replicate}
-use Rattle.message.specs.Layout.{shareLength, acknowledgementLength}
-use Rattle.switch.specs.Writing.{acknowledgementWritten}
+use Rattle.message.specs.Writing.{encode, isMessage}
+use Rattle.message.specs.declared.Message.{Message}
+use Rattle.switch.specs.Writing.{acknowledgementFor}
 use Rattle.switch.specs.Calls as switch-calls
-use Rattle.controller.specs.Writing.{shareWritten}
+use Rattle.controller.specs.Writing.{shareFor}
 use Rattle.controller.specs.Calls as controller-calls
 use Rattle.protocol.specs.Runs.{run, Sometime}
-use Rattle.domain.specs.Settings.{Setting, Keeps, switchKeys, controllerKeys}
+use Rattle.domain.specs.Settings.{Setting, Keeps}
 use Rattle.domain.specs.Calls.{Call, atSwitch, atController, Run, step}
 
+-- what an end would write at this moment: a switch for a controller, and a controller for a switch, if anything
+abbrev pub acknowledgementNow : Run → ℕ → ℕ → Message
+acknowledgementNow r s c = acknowledgementFor (r .switches s) c
+
+abbrev pub shareNow : Run → ℕ → ℕ → Message
+shareNow r c s = shareFor (r .controllers c) s
+
 module _ (S : Setting) where
-  -- what an end would write at this moment into a frame of the message's length: the answer, and the frame
-  abbrev pub acknowledgementNow : Run → ℕ → ℕ → ℕ × List ℕ
-  acknowledgementNow r s c =
-      let w = acknowledgementWritten (r .switches s) (switchKeys S s) c (replicate acknowledgementLength 0) 0 in
-      (w .0 .answer, w .1)
-
-  abbrev pub shareNow : Run → ℕ → ℕ → ℕ × List ℕ
-  shareNow r c s =
-      let w = shareWritten (r .controllers c) (controllerKeys S c) s (replicate shareLength 0) 0 in
-      (w .0 .answer, w .1)
-
-  -- at some moment of a list of calls, what an end would write then, if anything, is brought to the other end later on
-  abbrev pub Delivered : (Run → ℕ × List ℕ) → (List ℕ → Call) → Run → List Call → Type 0
-  Delivered now receives = Sometime (step S) (λ v rest. now v .0 ≡ 0 → List·Memᴰ (receives (now v .1)) rest)
+  -- at some moment of a list of calls, what an end would write then with a key, if anything, is brought to the other
+  -- end later on
+  abbrev pub Delivered : List ℕ → (Run → Message) → (List ℕ → Call) → Run → List Call → Type 0
+  Delivered key now receives =
+      Sometime (step S) (λ v rest. isMessage (now v) ≡ true → List·Memᴰ (receives (encode key (now v))) rest)
 
   -- first each switch's acknowledgement reaches a controller, then its share for each switch reaches that
   pub record Turn (c : ℕ) (r : Run) (calls : List Call) : Type 0 where
@@ -34,10 +33,11 @@ module _ (S : Setting) where
     pub second : List Call
     pub cut : calls ≡ first ++ second
     pub acknowledged : (s : ℕ) → s < 16
-        → Delivered (λ v. acknowledgementNow v s c) (λ bytes. atController c (controller-calls.receives bytes)) r first
+        → Delivered (S .key c s) (λ v. acknowledgementNow v s c)
+        (λ bytes. atController c (controller-calls.receives bytes)) r first
     pub shared : (s : ℕ) → s < 16
-        → Delivered (λ v. shareNow v c s) (λ bytes. atSwitch s (switch-calls.receives bytes))
-        (run (step S) r first) second
+        → Delivered (S .key c s) (λ v. shareNow v c s)
+        (λ bytes. atSwitch s (switch-calls.receives bytes)) (run (step S) r first) second
 
   -- so at every controller that keeps the rules; where its first half ends may differ from controller to controller
   abbrev pub Round : Run → List Call → Type 0

@@ -5,22 +5,23 @@ use mathlib.Core.Bool.{true, not, _&&_}
 use mathlib.Core.List.{List, [], _∷_, _++_, append-nil, append-assoc, List·Memᴰ, List·Memᴰ·head, List·Memᴰ·tail}
 use Prim.Native.Nat.{ℕ, zero, suc, _<_}
 use native.Mathlib.Omega.{arith}
-use lib.Dec.{eqb}
-use lib.ListN.{take, replicate}
-use lib.Seq.{take-all}
-use borrow.Author.Tests.{eqb-true, eq-eqb, not-true}
+use lib.ListN.{replicate}
+use borrow.Author.Tests.{not-true}
 use Rattle.answer.proofs.Bools.{by-eq, and-parts, pick-keeps}
 use Rattle.lists.specs.Kinds.{isAmong}
 use Rattle.lists.specs.Bytes.{part}
-use Rattle.message.specs.Layout.{shareLength, acknowledgementLength}
-use Rattle.message.specs.Writing.{lengthOf}
+use Rattle.message.specs.Layout.{acknowledgementLength}
+use Rattle.message.specs.Writing.{encode, lengthOf, isMessage}
+use Rattle.message.proofs.Stores.{joined-length}
 use Rattle.switch.specs.Calls.{acknowledgement, receives, writes}
-use Rattle.switch.proofs.Sent.{acknowledgement-sent}
+use Rattle.switch.specs.Writing.{acknowledgementWritten}
+use Rattle.switch.proofs.Sent.{sent-bytes}
 use Rattle.controller.specs.Calls.{writesShare}
 use Rattle.controller.specs.Calls as controller
-use Rattle.controller.specs.Writing.{shareOf, shareFor}
+use Rattle.controller.specs.Readiness.{readyFor}
+use Rattle.controller.specs.Writing.{shareWritten}
 use Rattle.controller.specs.declared.Undone.{Undone}
-use Rattle.controller.proofs.Sent.{allowed}
+use Rattle.controller.proofs.Sent.{share-there, ready-sent, share-bytes}
 use Rattle.protocol.specs.Runs.{run, Sometime, Rounds}
 use Rattle.protocol.proofs.Runs.{now, later}
 use Rattle.domain.specs.Settings.{Decision, Setting, Valid, playbook, Keeps, switchKeys, controllerKeys}
@@ -30,9 +31,8 @@ use Rattle.domain.specs.Premises as premises
 use Rattle.domain.specs.Agreement.{agreedChanges}
 use Rattle.domain.specs.Rounds.{acknowledgementNow, shareNow, Delivered, Round}
 use Rattle.domain.specs.Claim.{answered, unmade, AllBrought}
-use Rattle.domain.proofs.AtController.{share-there}
 use Rattle.domain.proofs.Reached.{Begun, Reached, ranged, last-small, run-reached}
-use Rattle.domain.proofs.Delivered.{acknowledgement-answered}
+use Rattle.domain.proofs.Delivered.{switch-key, controller-key, acknowledgement-answered}
 use Rattle.domain.proofs.Turns.{Fair, walked}
 use Rattle.domain.proofs.Theorem.{demand3}
 use Rattle.witness.specs.Deliveries.{Honest}
@@ -85,44 +85,45 @@ module _ (S : Setting) (v : Valid S) where
     acknowledging = atSwitch s (writes acknowledgement c (replicate acknowledgementLength 0) 0)
 
     acknowledgement-arrives : Fair S v r
-        (acknowledging ∷ atController c (controller.receives (acknowledgementNow S r s c .1)) ∷ [])
+        (acknowledging ∷ atController c (controller.receives (encode (S .key c s) (acknowledgementNow r s c))) ∷ [])
     acknowledgement-arrives =
-        let bytes = acknowledgementNow S r s c .1 in
-        let small = last-small S v r R s in
-        let none = acknowledgement-answered S v r s c l (keeps .0) (R .switches s l) small in
-        let sent = acknowledgement-sent (r .switches s) (switchKeys S s) c (replicate acknowledgementLength 0) 0
-        none small in
-        let whole : take acknowledgementLength bytes ≡ bytes =
-        take-all acknowledgementLength bytes (omega (arith, sent .long)) in
+        let frame : List ℕ = replicate acknowledgementLength 0 in
+        let t = r .switches s in
+        let m = acknowledgementNow r s c in
+        let bytes = encode (S .key c s) m in
+        let none = acknowledgement-answered S v r s c l (keeps .0) (R .switches s l) frame 0 (omega arith) in
+        let whole : part acknowledgementLength 0 (acknowledgementWritten t (switchKeys S s) c frame 0 .1) ≡ bytes =
+        sent-bytes t (switchKeys S s) c m true frame 0 none
+        ∙ ap (λ (key : List ℕ). encode key m) (switch-key S v s c (keeps .0)) in
         let kept = ap₂ (entry acknowledging) none whole in
         let next = step S r acknowledging in
         let wrote : SwitchWrote (next .log) s c bytes =
         rw (logged S r acknowledging) (premises.by-switch {kind = acknowledgement} (List·Memᴰ·head (sym kept))) in
-        let named = rw whole at (switch-wrote S r R (replicate acknowledgementLength 0) 0 acknowledgement s c l none) in
+        let named = rw whole at (switch-wrote S r R frame 0 acknowledgement s c l none) in
         at-once r b acknowledging (atController c (controller.receives bytes)) l tt tt keeps
         (switch-arrives S next s c bytes named wrote) tt
 
     -- a share that is written and arrives
     abbrev sharing : Call
-    sharing = atController c (writesShare s (replicate shareLength 0) 0)
+    sharing = atController c (writesShare s (replicate (lengthOf (shareNow r c s)) 0) 0)
 
-    share-comes : shareNow S r c s .0 ≡ 0
-        → Fair S v r (sharing ∷ atSwitch s (receives (shareNow S r c s .1)) ∷ [])
-    share-comes none =
-        let bytes = shareNow S r c s .1 in
-        let begins = b c keeps in
-        let sent = share-there S v r c _ (R .controllers c keeps) (ranged S v) (begins .0) (begins .1) s
-        (replicate shareLength 0) 0 none in
+    share-comes : isMessage (shareNow r c s) ≡ true
+        → Fair S v r (sharing ∷ atSwitch s (receives (encode (S .key c s) (shareNow r c s))) ∷ [])
+    share-comes there =
         let t = r .controllers c in
-        let a = allowed t (controllerKeys S c) s (replicate shareLength 0) 0 none in
-        let whole : part (lengthOf (shareFor t s)) 0 bytes ≡ bytes =
-        ap (λ x. part (lengthOf (shareOf (t .id) s x)) 0 bytes) (a .ready)
-        ∙ take-all shareLength bytes (omega (arith, sent .long)) in
+        let frame : List ℕ = replicate (lengthOf (shareNow r c s)) 0 in
+        let bytes = encode (S .key c s) (shareNow r c s) in
+        let some = share-there (t .id) s (readyFor t s) there in
+        let none = ready-sent t (controllerKeys S c) s frame 0 (R .controllers c keeps .ok)
+        (joined-length (S .key c) (v .keys c) 16) l (rw (some .1) (omega arith)) (some .0) (some .1) in
+        let whole : part (lengthOf (shareNow r c s)) 0 (shareWritten t (controllerKeys S c) s frame 0 .1) ≡ bytes =
+        share-bytes t (controllerKeys S c) s frame 0 none
+        ∙ ap (λ (key : List ℕ). encode key (shareNow r c s)) (controller-key S v c s l) in
         let kept = ap₂ (entry sharing) none whole in
         let next = step S r sharing in
         let wrote : ControllerWrote (next .log) c s bytes =
         rw (logged S r sharing) (premises.by-controller (List·Memᴰ·head (sym kept))) in
-        let named = rw whole at (share-wrote S r R (replicate shareLength 0) 0 c s keeps none) in
+        let named = rw whole at (share-wrote S r R frame 0 c s keeps none) in
         at-once r b sharing (atSwitch s (receives bytes)) keeps tt tt l (share-arrives S next s c bytes named wrote) tt
 
   -- the two halves of a round
@@ -134,9 +135,9 @@ module _ (S : Setting) (v : Valid S) where
   shares-fair : (s : ℕ) → s < 16 → (r : Run) → Reached S r → Begun S r → (c : ℕ) → c < S .n
       → Fair S v r (shares S s r c)
   shares-fair s l r R b c known =
-      pick-keeps (Fair S v r) (not (S .strays c) && eqb (shareNow S r c s .0) 0) _ _
-      (λ e. let both = and-parts (not (S .strays c)) (eqb (shareNow S r c s .0) 0) e in
-      share-comes r R b s c l (known, not-true _ (both .0)) (eqb-true _ _ (both .1)))
+      pick-keeps (Fair S v r) (not (S .strays c) && isMessage (shareNow r c s)) _ _
+      (λ e. let both = and-parts (not (S .strays c)) (isMessage (shareNow r c s)) e in
+      share-comes r R b s c l (known, not-true _ (both .0)) (both .1))
       (λ e. nothing-fair r b)
 
   first-fair : (r : Run) → Reached S r → Begun S r → Fair S v r (firstHalf S r)
@@ -162,13 +163,14 @@ module _ (S : Setting) (v : Valid S) where
   -- in which what each end would write reaches the other
   module _ (s c : ℕ) (l : s < 16) (keeps : Keeps S c) where
     abbrev Told : Run → List Call → Type 0
-    Told u rest = acknowledgementNow S u s c .0 ≡ 0
-        → List·Memᴰ (atController c (controller.receives (acknowledgementNow S u s c .1))) rest
+    Told u rest = isMessage (acknowledgementNow u s c) ≡ true
+        → List·Memᴰ (atController c (controller.receives (encode (S .key c s) (acknowledgementNow u s c)))) rest
 
     abbrev Sent : Run → List Call → Type 0
-    Sent u rest = shareNow S u c s .0 ≡ 0 → List·Memᴰ (atSwitch s (receives (shareNow S u c s .1))) rest
+    Sent u rest = isMessage (shareNow u c s) ≡ true
+        → List·Memᴰ (atSwitch s (receives (encode (S .key c s) (shareNow u c s)))) rest
 
-    told : (r : Run) → Delivered S (λ u. acknowledgementNow S u s c)
+    told : (r : Run) → Delivered S (S .key c s) (λ u. acknowledgementNow u s c)
         (λ bytes. atController c (controller.receives bytes)) r (firstHalf S r)
     told r =
         subst (Sometime (step S) Told r) (append-nil (firstHalf S r))
@@ -176,13 +178,13 @@ module _ (S : Setting) (v : Valid S) where
         (each-moment Told (S .n) (tells S s) c (keeps .0)
         (λ u rest. rw (keeps .1) (now (step S) Told u _ (λ e. List·Memᴰ·tail (List·Memᴰ·head refl))))) r [])
 
-    sent : (r : Run) → Delivered S (λ u. shareNow S u c s) (λ bytes. atSwitch s (receives bytes)) r (secondHalf S r)
+    sent : (r : Run) → Delivered S (S .key c s) (λ u. shareNow u c s) (λ bytes. atSwitch s (receives bytes)) r (secondHalf S r)
     sent r =
         subst (Sometime (step S) Sent r) (append-nil (secondHalf S r))
         (each-moment Sent _ _ s (omega arith)
         (each-moment Sent (S .n) (shares S s) c (keeps .0)
         (λ u rest. now (step S) Sent u (shares S s u c ++ rest) (λ e.
-        rw (keeps .1, eq-eqb (shareNow S u c s .0) 0 e) (List·Memᴰ·tail (List·Memᴰ·head refl))))) r [])
+        rw (keeps .1, e) (List·Memᴰ·tail (List·Memᴰ·head refl))))) r [])
 
   round-full : (r : Run) → Round S r (round S r)
   round-full r c keeps = record {

@@ -3,10 +3,10 @@
 use Prim.Native.Nat.{ℕ, zero, suc}
 use mathlib.Core.Bool.{not, _&&_}
 use mathlib.Core.List.{List, [], _∷_, _++_}
-use lib.Dec.{eqb}
 use lib.ListN.{replicate}
 use Rattle.answer.specs.Ask.{pick}
-use Rattle.message.specs.Layout.{shareLength, acknowledgementLength}
+use Rattle.message.specs.Layout.{acknowledgementLength}
+use Rattle.message.specs.Writing.{encode, lengthOf, isMessage}
 use Rattle.switch.specs.Calls.{acknowledgement, receives, writes}
 use Rattle.controller.specs.Calls.{writesShare}
 use Rattle.controller.specs.Calls as controller
@@ -21,14 +21,14 @@ module _ (S : Setting) where
   tells s r c =
       pick (S .strays c) []
       (atSwitch s (writes acknowledgement c (replicate acknowledgementLength 0) 0)
-      ∷ atController c (controller.receives (acknowledgementNow S r s c .1)) ∷ [])
+      ∷ atController c (controller.receives (encode (S .key c s) (acknowledgementNow r s c))) ∷ [])
 
   -- c, where it keeps the rules, writes its share for s, if it has one, and it arrives
   abbrev pub shares : ℕ → Run → ℕ → List Call
   shares s r c =
-      pick (not (S .strays c) && eqb (shareNow S r c s .0) 0)
-      (atController c (writesShare s (replicate shareLength 0) 0)
-      ∷ atSwitch s (receives (shareNow S r c s .1)) ∷ []) []
+      pick (not (S .strays c) && isMessage (shareNow r c s))
+      (atController c (writesShare s (replicate (lengthOf (shareNow r c s)) 0) 0)
+      ∷ atSwitch s (receives (encode (S .key c s) (shareNow r c s))) ∷ []) []
 
   -- the calls for each number below k, one after another, each as things then stand
   unfoldable pub forEach : ℕ → (Run → ℕ → List Call) → Run → List Call
