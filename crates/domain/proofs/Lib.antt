@@ -9,6 +9,7 @@ pub mod AtSwitch
 pub mod Undone
 pub mod AtController
 pub mod Reached
+pub mod Wrote
 pub mod Ideals
 pub mod Numbers
 pub mod Safety

@@ -138,7 +138,7 @@ module _ (S : Setting) where
         (λ k i. record { last = 0; acknowledged = λ s. same-everywhere 16 s 0 i })
         (λ y i. record { last = 0; acknowledged = λ s. same-everywhere 16 s 0 i })
 
-    start-view : view (start S) ≡ protocol-worlds.start D
+    pub start-view : view (start S) ≡ protocol-worlds.start D
     unfolding messages madeSo
     start-view = λ i. record {
       switches = λ s. switch-view s i;

@@ -1,5 +1,5 @@
--- What an end wrote names that end and its receiver, be the numbers in it in range or not; so it does in the log of
--- every run within the premises. Assumes nothing.
+-- What a log keeps of a call. What an end wrote names that end and its receiver, be the numbers in it in range or not; so
+-- it does in the log of every run within the premises.
 use mathlib.Core.Path.{_≡_, refl, sym, ap, _∙_}
 use mathlib.Core.List.{List, [], _∷_, List·Memᴰ·cases-cons, List·Memᴰ·not-nil}
 use mathlib.Core.Logic.{⊎-elim}
@@ -25,13 +25,14 @@ use Rattle.controller.specs.Calls as controller-calls
 use Rattle.controller.specs.Calls.{writesShare}
 use Rattle.controller.specs.Writing.{shareOf, shareWritten}
 use Rattle.controller.proofs.Sent.{allowed, share-bytes}
-use Rattle.protocol.specs.Runs.{run}
-use Rattle.domain.specs.Settings.{Setting, Keeps, switchKeys, controllerKeys}
+use Rattle.protocol.specs.Runs.{run, Every}
+use Rattle.domain.specs.Settings.{Setting, Valid, Keeps, switchKeys, controllerKeys}
 use Rattle.domain.specs.Calls.{Call, atSwitch, atController, Done, Run, start, step}
 use Rattle.domain.specs.Calls.{switchWrites, controllerWrites}
-use Rattle.domain.specs.Premises.{SwitchWrote, ControllerWrote, FromSwitch, FromController}
+use Rattle.domain.specs.Premises.{SwitchWrote, ControllerWrote, FromSwitch, FromController, InRun, Unforged}
+use Rattle.domain.specs.Premises.{Premises}
 use Rattle.domain.specs.Premises as premises
-use Rattle.domain.proofs.Reached.{Reached}
+use Rattle.domain.proofs.Reached.{Begun, begun-early, Reached, start-reached, call-reached}
 
 -- the bytes of each kind of message
 module _ (key : List ℕ) where
@@ -177,3 +178,17 @@ module _ (S : Setting) where
     shares = λ c s bytes keeps w. absurd (none-wrote w);
     switches = λ s c bytes l w. absurd (none-said w);
   }
+
+  -- so it is in every run within the premises
+  module _ (v : Valid S) where
+    named : (r : Run) → Reached S r → Named (r .log) → (xs : List Call) → Every (step S) (InRun S) r xs
+        → Every (step S) (Unforged S) r xs → Begun S (run (step S) r xs) → Named (run (step S) r xs .log)
+    named r R n [] h honest begun = n
+    named r R n (x ∷ xs) h honest begun =
+        let b = begun-early S (step S r x) xs begun in
+        named (step S r x) (call-reached S v r R x (h .0) (honest .0) b) (named-after r R n x) xs (h .1) (honest .1)
+        begun
+
+    pub run-named : (calls : List Call) → Premises S calls → Named (run (step S) (start S) calls .log)
+    run-named calls p =
+        named (start S) (start-reached S v) start-named calls (p .in-run) (p .unforged) (p .beginning)
