@@ -17,4 +17,5 @@ pub mod Room
 pub mod Delivered
 pub mod Turns
 pub mod Live
+pub mod Vouched
 pub mod Theorem

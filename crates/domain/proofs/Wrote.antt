@@ -25,14 +25,13 @@ use Rattle.controller.specs.Calls as controller-calls
 use Rattle.controller.specs.Calls.{writesShare}
 use Rattle.controller.specs.Writing.{shareOf, shareWritten}
 use Rattle.controller.proofs.Sent.{allowed, share-bytes}
-use Rattle.protocol.specs.Runs.{run, Every}
+use Rattle.protocol.specs.Runs.{run}
 use Rattle.domain.specs.Settings.{Setting, Valid, Keeps, switchKeys, controllerKeys}
 use Rattle.domain.specs.Calls.{Call, atSwitch, atController, Done, Run, start, step}
 use Rattle.domain.specs.Calls.{switchWrites, controllerWrites}
-use Rattle.domain.specs.Premises.{SwitchWrote, ControllerWrote, FromSwitch, FromController, InRun, Unforged}
-use Rattle.domain.specs.Premises.{Premises}
+use Rattle.domain.specs.Premises.{SwitchWrote, ControllerWrote, FromSwitch, FromController, Premises}
 use Rattle.domain.specs.Premises as premises
-use Rattle.domain.proofs.Reached.{Begun, begun-early, Reached, start-reached, call-reached}
+use Rattle.domain.proofs.Reached.{Reached, run-keeps}
 
 -- the bytes of each kind of message
 module _ (key : List ℕ) where
@@ -180,15 +179,5 @@ module _ (S : Setting) where
   }
 
   -- so it is in every run within the premises
-  module _ (v : Valid S) where
-    named : (r : Run) → Reached S r → Named (r .log) → (xs : List Call) → Every (step S) (InRun S) r xs
-        → Every (step S) (Unforged S) r xs → Begun S (run (step S) r xs) → Named (run (step S) r xs .log)
-    named r R n [] h honest begun = n
-    named r R n (x ∷ xs) h honest begun =
-        let b = begun-early S (step S r x) xs begun in
-        named (step S r x) (call-reached S v r R x (h .0) (honest .0) b) (named-after r R n x) xs (h .1) (honest .1)
-        begun
-
-    pub run-named : (calls : List Call) → Premises S calls → Named (run (step S) (start S) calls .log)
-    run-named calls p =
-        named (start S) (start-reached S v) start-named calls (p .in-run) (p .unforged) (p .beginning)
+  pub run-named : Valid S → (calls : List Call) → Premises S calls → Named (run (step S) (start S) calls .log)
+  run-named v = run-keeps S v (λ r. Named (r .log)) (λ r R x h honest begun n. named-after r R n x) start-named
