@@ -1,7 +1,7 @@
 -- A share answered 1 was written earlier by some controller that keeps the rules: in the protocol that controller's
 -- message is among those written, a message is there only if its writing stands in the log, and what was written names
 -- its controller and its switch.
-use mathlib.Core.Path.{_≡_, refl, sym, ap, _∙_, subst}
+use mathlib.Core.Path.{_≡_, sym, ap, _∙_, subst}
 use mathlib.Core.List.{List, [], _∷_, _++_, List·Memᴰ, List·Memᴰ·head, List·Memᴰ·tail, List·Memᴰ·cases-cons}
 use mathlib.Core.List.{List·Memᴰ·not-nil}
 use mathlib.Core.Logic.{_⊎_, inl, inr, ⊎-elim}
