@@ -18,4 +18,5 @@ pub mod Delivered
 pub mod Turns
 pub mod Live
 pub mod Vouched
+pub mod OneEnd
 pub mod Theorem
