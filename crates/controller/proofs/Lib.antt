@@ -4,6 +4,7 @@ pub mod Waiting
 pub mod Staying
 pub mod Taken
 pub mod Deciding
+pub mod Full
 pub mod Numbering
 pub mod Moves
 pub mod Kept

@@ -9,6 +9,7 @@ pub mod AtSwitch
 pub mod Undone
 pub mod AtController
 pub mod Reached
+pub mod Wrote
 pub mod Ideals
 pub mod Numbers
 pub mod Safety
@@ -16,4 +17,6 @@ pub mod Room
 pub mod Delivered
 pub mod Turns
 pub mod Live
+pub mod Vouched
+pub mod OneEnd
 pub mod Theorem

@@ -112,7 +112,7 @@ module _ (switch : ℕ → ℕ) where
       (λ q. ne-eqb (switch k) s (λ z. eqb-false _ _ e (sym own ∙ ap switch (eqb-true _ _ q) ∙ z))) rest))
 
 -- the highest of some numbers is one of them, or 0, and none is above it
-highest-top : (ks : List ℕ) (k : ℕ) → isAmong k ks ≡ true → k ≤ highest ks
+pub highest-top : (ks : List ℕ) (k : ℕ) → isAmong k ks ≡ true → k ≤ highest ks
 unfolding highest among
 highest-top [] k h = tf h refl
 highest-top (j ∷ ks) k h =
@@ -123,7 +123,7 @@ highest-top (j ∷ ks) k h =
     (λ e. let low = highest-top ks k e in
     by-bool (ltb (highest ks) j) (λ l. let high = ltb-true (highest ks) j l in rw l (omega arith)) (λ l. rw l low))
 
-highest-in : (ks : List ℕ) → 0 < highest ks → isAmong (highest ks) ks ≡ true
+pub highest-in : (ks : List ℕ) → 0 < highest ks → isAmong (highest ks) ks ≡ true
 unfolding highest among
 highest-in [] h = absurd (omega arith)
 highest-in (j ∷ ks) h =

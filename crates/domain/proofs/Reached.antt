@@ -138,7 +138,7 @@ module _ (S : Setting) where
         (λ k i. record { last = 0; acknowledged = λ s. same-everywhere 16 s 0 i })
         (λ y i. record { last = 0; acknowledged = λ s. same-everywhere 16 s 0 i })
 
-    start-view : view (start S) ≡ protocol-worlds.start D
+    pub start-view : view (start S) ≡ protocol-worlds.start D
     unfolding messages madeSo
     start-view = λ i. record {
       switches = λ s. switch-view s i;
@@ -302,3 +302,17 @@ module _ (S : Setting) where
 
     pub run-reached : (calls : List Call) → Premises S calls → Reached (run (step S) (start S) calls)
     run-reached calls p = walk (start S) start-reached calls (p .in-run) (p .unforged) (p .beginning) .reached
+
+    -- what a fresh run has and each call within the premises keeps, every run within them has
+    module _ (Q : Run → Type 0) (keep : (r : Run) → Reached r → (x : Call) → InRun S r x → Unforged S r x
+        → Begun (step S r x) → Q r → Q (step S r x)) where
+      walk-keeps : (r : Run) → Reached r → (xs : List Call) → Every (step S) (InRun S) r xs
+          → Every (step S) (Unforged S) r xs → Begun (run (step S) r xs) → Q r → Q (run (step S) r xs)
+      walk-keeps r R [] h honest begun q = q
+      walk-keeps r R (x ∷ xs) h honest begun q =
+          let b = begun-early (step S r x) xs begun in
+          walk-keeps (step S r x) (call-reached r R x (h .0) (honest .0) b) xs (h .1) (honest .1) begun
+          (keep r R x (h .0) (honest .0) b q)
+
+      pub run-keeps : Q (start S) → (calls : List Call) → Premises S calls → Q (run (step S) (start S) calls)
+      run-keeps q calls p = walk-keeps (start S) start-reached calls (p .in-run) (p .unforged) (p .beginning) q

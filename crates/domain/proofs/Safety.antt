@@ -1,4 +1,4 @@
--- The first half of the claim, from what holds after every run. Assumes nothing.
+-- The first half of the claim, from what holds after every run; and the table of a switch by its last applied number.
 use mathlib.Core.Path.{_≡_, sym, ap, _∙_, subst}
 use mathlib.Core.Bool.{_&&_}
 use mathlib.Core.List.{List, map, List·Memᴰ}
@@ -16,17 +16,18 @@ use Rattle.message.specs.declared.Message.the-variants.{Share}
 use Rattle.message.proofs.Ends.{share-number}
 use Rattle.switch.specs.Calls.{receives}
 use Rattle.controller.specs.Changes.{emptyUndone}
-use Rattle.protocol.specs.Orders.{falling}
+use Rattle.protocol.specs.Orders.{falling, upTo}
 use Rattle.protocol.proofs.Ends as protocol
 use Rattle.protocol.proofs.Worlds as protocol-worlds
 use Rattle.protocol.proofs.Claims as protocol-claims
 use Rattle.protocol.proofs.Claims.{Lawful}
 use Rattle.protocol.proofs.Orders.{lawful-agreed, falling-lawful, falling-tables}
+use Rattle.protocol.proofs.Lasts.{upTo-lawful, lasts-upTo, table-by-last}
 use Rattle.domain.specs.Settings.{Setting, Valid}
 use Rattle.domain.specs.Calls.{atSwitch, Run}
-use Rattle.domain.specs.Ideals.{changeOf, fed}
+use Rattle.domain.specs.Ideals.{changeOf, fed, tableAt}
 use Rattle.domain.specs.Claim.{made, numbersAt, highest, Carries, agreed, answered, Safe}
-use Rattle.domain.proofs.View.{domainOf, viewSwitch, ruleIn, madeSo}
+use Rattle.domain.proofs.View.{domainOf, viewSwitch, ruleIn, madeSo, view}
 use Rattle.domain.proofs.Agreed.{change-fine, laws}
 use Rattle.domain.proofs.Reached.{Reached, ranged}
 use Rattle.domain.proofs.Ideals.{Fed, fed-lawful}
@@ -105,3 +106,12 @@ module _ (S : Setting) (v : Valid S) (r : Run) (R : Reached S r) where
         ∙ sym (falling-tables D (laws S v (ranged S v)) (answered S r) lawful s) ∙ sym (by-number .tables s);
     lasts = λ s l. highest-made s;
   }
+
+  -- the table of a switch follows from its last applied number
+  pub reached-table : (s : ℕ) → r .switches s .table ≡ tableAt (agreed S) s (r .switches s .last)
+  reached-table s =
+      let L = laws S v (ranged S v) in
+      let last = r .switches s .last in
+      let few = lasts-upTo D L (view r) (R .invariant) s .few in
+      table-by-last D L (view r) (R .invariant) s
+      ∙ sym (fed-lawful S v (ranged S v) (upTo last) (upTo-lawful D L last few) .tables s)

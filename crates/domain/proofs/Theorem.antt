@@ -17,14 +17,16 @@ use Rattle.protocol.proofs.Orders.{lawful-agreed}
 use Rattle.domain.specs.Settings.{Decision, Setting, Valid, playbook, Keeps}
 use Rattle.domain.specs.Calls.{Call, Run, start, step}
 use Rattle.domain.specs.Premises.{taken, Premises}
-use Rattle.domain.specs.Ideals.{changeOf}
+use Rattle.domain.specs.Ideals.{changeOf, tableAt}
 use Rattle.domain.specs.Claim.{agreed, Safe, RoundsMake, Demand3}
+use Rattle.domain.specs.Vouched.{Vouched}
 use Rattle.domain.proofs.View.{domainOf}
 use Rattle.domain.proofs.Ends.{switch-set, controller-set}
 use Rattle.domain.proofs.Reached.{ranged, run-reached}
 use Rattle.domain.proofs.Room.{roomy}
-use Rattle.domain.proofs.Safety.{reached-safe}
+use Rattle.domain.proofs.Safety.{reached-safe, reached-table}
 use Rattle.domain.proofs.Live.{brought-made, taken-made}
+use Rattle.domain.proofs.Vouched.{run-vouched}
 
 module _ (S : Setting) (v : Valid S) where
   pub switches-set : (s : ℕ) → s < 16 → switch.setupOf s (S .n) .answer ≡ 0
@@ -66,3 +68,15 @@ pub same-decisions-made : (S : Setting) → Valid S → (before rest : List Call
     → RoundsMake S ds before rest
 same-decisions-made S v before rest p ds same =
     taken-made S v before rest p ds (λ c keeps. ([], same c keeps ∙ sym (append-nil ds)))
+
+-- a stray alone changes nothing: each share answered 1 has the number and rule of one that some controller which keeps
+-- the rules wrote for that switch earlier in the run
+pub vouched : (S : Setting) → Valid S → (calls : List Call) → Premises S calls
+    → Vouched S (run (step S) (start S) calls .log)
+vouched = run-vouched
+
+-- a switch's table is a function of the agreed changes and its last applied number
+pub table-by-last : (S : Setting) → Valid S → (calls : List Call) → Premises S calls → (s : ℕ) →
+    let switch = run (step S) (start S) calls .switches s in
+    switch .table ≡ tableAt (agreed S) s (switch .last)
+table-by-last S v calls p = reached-table S v (run (step S) (start S) calls) (run-reached S v calls p)

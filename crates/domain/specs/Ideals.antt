@@ -15,6 +15,7 @@ use Rattle.controller.specs.Changes.{emptyUndone}
 use Rattle.controller.specs.Readiness.{waitsFor}
 use Rattle.controller.specs.declared.Undone.{Undone}
 use Rattle.protocol.specs.Families.{upd}
+use Rattle.protocol.specs.Orders.{upTo}
 
 -- the flow tables, the numbers made, and the numbers refused, the latest first
 pub record Ideal : Type 0 where
@@ -54,3 +55,7 @@ module _ (agreed : List Undone) where
   unfoldable pub fed : List ℕ → Ideal
   fed [] = record { tables = λ s. tableOf []; made = []; refused = [] }
   fed (k ∷ ks) = feed (fed ks) k
+
+  -- the table of switch s once it was fed the numbers from 1 to k, in their order
+  abbrev pub tableAt : ℕ → ℕ → Table
+  tableAt s k = fed (upTo k) .tables s

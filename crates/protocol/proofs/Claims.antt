@@ -3,20 +3,16 @@
 use mathlib.Core.Path.{_≡_}
 use mathlib.Core.Bool.{Bool, true, false}
 use mathlib.Core.List.{List, [], _∷_, _++_, map, List·Memᴰ}
-use Prim.Native.Nat.{ℕ, zero, suc, _+_, _≤_, _<_}
+use Prim.Native.Nat.{ℕ, _+_, _≤_, _<_}
 use lib.Dec.{ltb, eqb}
 use Rattle.answer.specs.Ask.{pick}
 use Rattle.lists.specs.Kinds.{isAmong}
 use Rattle.protocol.specs.Families.{countBelow}
 use Rattle.protocol.specs.Runs.{run, Sometime}
+use Rattle.protocol.specs.Orders.{upTo}
 use Rattle.protocol.proofs.Ends.{Domain, Switch}
 use Rattle.protocol.proofs.Worlds.{Made, World, Call, takesShare, takesAcknowledgement, step, isMember, Trusted}
 use Rattle.protocol.proofs.Worlds.{Agreed, Ready}
-
--- the numbers from k down to 1
-unfoldable pub upTo : ℕ → List ℕ
-upTo zero = []
-upTo (suc k) = suc k ∷ upTo k
 
 module _ {Content Table : Type 0} (D : Domain Content Table) where
   -- Few enough stray at first, and nobody becomes a member later. A change waits only for lower numbers, and for all

@@ -102,15 +102,26 @@ module _ {Content Table : Type 0} where
         all-made = λ k g h. absurd (omega (arith, g .0));
       }
 
-      -- a quorum has a member that keeps the rules, so what it holds is sound
-      pub quorum-sound : (a : ℕ → ℕ) (s : ℕ) (t : Table) (slots : ℕ → Slot Content) (k : ℕ) (x : Content) → Trusted D t
-          → ((c : ℕ) → SoundSlot a s t c (slots c)) → 0 < k → D .quorum t ≤ agreeing D k x slots → Sound a s k x
-      quorum-sound a s t slots k x trusted held positive quorum =
-          let one = pigeon (D .controllers) (λ c. holds D k x (slots c)) (λ c. D .member t c && D .strays c)
-          (omega (arith, trusted .too-few)) in
-          let c = one .0 in
-          let is = holds-sound k x (slots c) (one .2) in
-          let h = held c (rw (is .0) positive) in
-          let g = h .2 (is-false (D .strays c) (λ e. tf (and-join (D .member t c) _ (h .1) e) (one .3))) in
-          subst (λ (y : Content). Sound a s k y) (is .1)
-          (subst (λ (i : ℕ). Sound a s i (slots c .content)) (is .0) g)
+      -- a quorum has a member that keeps the rules
+      module _ (a : ℕ → ℕ) (s : ℕ) (t : Table) (slots : ℕ → Slot Content) (k : ℕ) (x : Content)
+          (trusted : Trusted D t) (held : (c : ℕ) → SoundSlot a s t c (slots c)) (positive : 0 < k)
+          (quorum : D .quorum t ≤ agreeing D k x slots) where
+        pub quorum-keeper : (c : ℕ) × (c < D .controllers) × (D .strays c ≡ false)
+            × (slots c .number ≡ k) × (slots c .content ≡ x)
+        quorum-keeper =
+            let one = pigeon (D .controllers) (λ c. holds D k x (slots c)) (λ c. D .member t c && D .strays c)
+            (omega (arith, trusted .too-few)) in
+            let c = one .0 in
+            let is = holds-sound k x (slots c) (one .2) in
+            let member = held c (rw (is .0) positive) .1 in
+            let keeps = is-false (D .strays c) (λ e. tf (and-join (D .member t c) _ member e) (one .3)) in
+            (c, one .1, keeps, is .0, is .1)
+
+        -- so what it holds is sound
+        pub quorum-sound : Sound a s k x
+        quorum-sound =
+            let one = quorum-keeper in
+            let c = one .0 in
+            let g = held c (rw (one .3) positive) .2 (one .2) in
+            subst (λ (y : Content). Sound a s k y) (one .4)
+            (subst (λ (i : ℕ). Sound a s i (slots c .content)) (one .3) g)

@@ -1,7 +1,7 @@
 -- What a switch holds follows from its last applied number: it is what the agreed changes on it up to that number make,
 -- in their order. So it is the same in any two runs where that number is.
 use mathlib.Core.Path.{_≡_, refl, sym, ap, _∙_}
-use mathlib.Core.Bool.{true}
+use mathlib.Core.Bool.{true, false}
 use mathlib.Core.List.{List, [], _∷_}
 use Prim.Native.Nat.{ℕ, zero, suc, _≤_, _<_}
 use native.Mathlib.Omega.{arith}
@@ -9,11 +9,25 @@ use lib.Dec.{eqb}
 use borrow.Author.Tests.{eqb-true, eqb-false, eq-eqb, ne-eqb}
 use Rattle.answer.proofs.Bools.{by-bool, by-eq, by-le, by-or, tf, or-left, or-right}
 use Rattle.lists.specs.Kinds.{among, isAmong}
+use Rattle.protocol.specs.Orders.{upTo}
 use Rattle.protocol.proofs.Ends.{Domain}
 use Rattle.protocol.proofs.Worlds.{World, Agreed}
-use Rattle.protocol.proofs.Claims.{Laws, Next, Lawful, numbers, tableAfter, upTo}
+use Rattle.protocol.proofs.Claims.{Laws, Next, Lawful, numbers, tableAfter, tableAt}
 use Rattle.protocol.proofs.Orders.{lawful-agreed, lawful-closed}
 use Rattle.protocol.proofs.Invariant.{lasts, Invariant}
+
+-- the numbers up to one are exactly these
+upTo-among : (k j : ℕ) → 0 < j → j ≤ k → isAmong j (upTo k) ≡ true
+unfolding upTo among
+upTo-among zero j p l = absurd (omega arith)
+upTo-among (suc k) j p l =
+    by-eq (suc k) j (λ e. or-left _ _ (eq-eqb (suc k) j e))
+    (λ n. or-right (eqb (suc k) j) _ (upTo-among k j p (omega arith)))
+
+upTo-past : (k j : ℕ) → k < j → isAmong j (upTo k) ≡ false
+unfolding upTo among
+upTo-past zero j l = refl
+upTo-past (suc k) j l = rw (ne-eqb (suc k) j (λ e. omega arith)) (upTo-past k j (omega arith))
 
 module _ {Content Table : Type 0} (D : Domain Content Table) where
   -- the numbers of a list on a switch are the agreed ones up to b
@@ -40,6 +54,19 @@ module _ {Content Table : Type 0} (D : Domain Content Table) where
   top-made s (suc i) p on = (i, refl, rw on)
 
   module _ (L : Laws D) where
+    -- agreed numbers may be made in their order
+    pub upTo-lawful : (k : ℕ) → k ≤ D .total → Lawful D (upTo k)
+    unfolding upTo
+    upTo-lawful zero l = tt
+    upTo-lawful (suc k) l = (
+      record {
+        agreed = (omega arith, l);
+        new = upTo-past k (suc k) (omega arith);
+        none-skipped = λ j e. let low = L .lower (suc k) j e in upTo-among k j (low .0) (omega (arith, low .1));
+      },
+      upTo-lawful k (omega arith),
+    )
+
     -- a number that may be made next on a switch is the highest there
     next-highest : (k : ℕ) (ks : List ℕ) → Next D k ks → Lawful D ks → (j : ℕ) → isAmong j ks ≡ true
         → D .switch j ≡ D .switch k → j < k
@@ -94,5 +121,5 @@ module _ {Content Table : Type 0} (D : Domain Content Table) where
     }
 
     pub table-by-last : (w : World Content Table) → Invariant D w → (s : ℕ)
-        → w .switches s .table ≡ tableAfter D (upTo (lasts w s)) s
+        → w .switches s .table ≡ tableAt D s (lasts w s)
     table-by-last w I s = I .safe .tables s ∙ by-bound s (lasts w s) _ (I .safe .lawful) (lasts-upTo w I s)

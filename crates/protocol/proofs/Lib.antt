@@ -8,6 +8,7 @@ pub mod Runs
 pub mod Invariant
 pub mod Steps
 pub mod Kept
+pub mod Vouched
 pub mod Orders
 pub mod Lasts
 pub mod Growing

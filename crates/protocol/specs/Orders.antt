@@ -1,5 +1,5 @@
--- Numbers sorted. Assumes nothing.
-use Prim.Native.Nat.{ℕ}
+-- Numbers sorted, and the numbers up to one.
+use Prim.Native.Nat.{ℕ, zero, suc}
 use mathlib.Core.List.{List, [], _∷_}
 use lib.Dec.{ltb}
 use Rattle.answer.specs.Ask.{pick}
@@ -13,3 +13,8 @@ insert k (j ∷ js) = pick (ltb k j) (j ∷ insert k js) (k ∷ j ∷ js)
 unfoldable pub falling : List ℕ → List ℕ
 falling [] = []
 falling (k ∷ ks) = insert k (falling ks)
+
+-- the numbers from k down to 1
+unfoldable pub upTo : ℕ → List ℕ
+upTo zero = []
+upTo (suc k) = suc k ∷ upTo k

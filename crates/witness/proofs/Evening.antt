@@ -28,13 +28,13 @@ use Rattle.domain.specs.Premises as premises
 use Rattle.domain.specs.Agreement.{agreedChanges}
 use Rattle.domain.specs.Ideals.{isAgreed, changeOf, skipsNone, accepts, fed}
 use Rattle.domain.specs.Claim.{made, agreed, answered, unmade, Safe}
+use Rattle.domain.proofs.Wrote.{entry, share-named, log-before}
 use Rattle.domain.proofs.Ends.{switch-set, controller-set}
 use Rattle.domain.proofs.Numbers.{at-member}
 use Rattle.domain.proofs.Theorem.{demand3}
 use Rattle.witness.specs.Played.{rounds}
 use Rattle.witness.specs.Evening.{outage, evening, byPort, share, agrees, writes, arrives, evening-calls, answers}
 use Rattle.witness.proofs.Deliveries.{honest-call, share-arrives, stray-arrives}
-use Rattle.witness.proofs.Wrote.{entry, share-named, log-before}
 use Rattle.witness.proofs.Extended.{all-in-run}
 use Rattle.witness.proofs.Played.{rounds-follow, brought-to-end}
 use Rattle.witness.proofs.EveningEnds.{valid, near, changes, agreed-are, agrees-0, writes-0, writes-share}

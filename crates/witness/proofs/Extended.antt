@@ -18,11 +18,11 @@ use Rattle.protocol.proofs.Runs.{run-append, every-join}
 use Rattle.domain.specs.Settings.{Setting, Valid, Keeps}
 use Rattle.domain.specs.Calls.{Call, atSwitch, atController, Run, start, step}
 use Rattle.domain.specs.Premises.{SwitchWrote, ControllerWrote, FromController, InRun, Unforged, decisions, Premises}
-use Rattle.domain.proofs.Reached.{Begun, Reached, begun-early, start-reached, call-reached}
-use Rattle.domain.proofs.Turns.{Fair, premises-fair, fair-rest}
+use Rattle.domain.proofs.Reached.{Begun}
+use Rattle.domain.proofs.Wrote.{Named, run-named}
+use Rattle.domain.proofs.Turns.{Fair, premises-fair}
 use Rattle.witness.specs.Deliveries.{Honest}
 use Rattle.witness.proofs.Deliveries.{honest-call, share-arrives, switch-arrives, stray-alone}
-use Rattle.witness.proofs.Wrote.{Named, named-after, start-named}
 
 -- a call that is no decision
 abbrev pub NoDecision : Call → Type 0
@@ -78,21 +78,12 @@ module _ (S : Setting) (v : Valid S) where
       → Fair S v r (x ∷ [])
   fair-call r x h honest quiet b = record { in-run = (h, tt); unforged = (honest, tt); begun = begun-on r x quiet b }
 
-  -- what was written in a run within the premises names its sender and receiver
-  named : (r : Run) → Reached S r → Named S (r .log) → (xs : List Call) → Fair S v r xs
-      → Named S (run (step S) r xs .log)
-  named r R n [] f = n
-  named r R n (x ∷ xs) f =
-      let b = begun-early S (step S r x) xs (f .begun) in
-      named (step S r x) (call-reached S v r R x (f .in-run .0) (f .unforged .0) b) (named-after S r R n x) xs
-      (fair-rest S v r (x ∷ []) xs f)
-
   module _ (calls : List Call) (p : Premises S calls) where
     abbrev r : Run
     r = run (step S) (start S) calls
 
-    run-named : Named S (r .log)
-    run-named = named (start S) (start-reached S v) (start-named S) calls (premises-fair S v calls p)
+    names : Named S (r .log)
+    names = run-named S v calls p
 
     one-more : (x : Call) → InRun S r x → Honest S r x → NoDecision x → Premises S (calls ++ x ∷ [])
     one-more x h honest quiet =
@@ -103,13 +94,13 @@ module _ (S : Setting) (v : Valid S) where
         → Premises S (calls ++ atSwitch s (receives bytes) ∷ [])
     share-later s c bytes l keeps wrote =
         one-more (atSwitch s (receives bytes)) l
-        (share-arrives S r s c bytes (run-named .shares c s bytes keeps wrote) wrote) tt
+        (share-arrives S r s c bytes (names .shares c s bytes keeps wrote) wrote) tt
 
     pub switch-later : (s c : ℕ) (bytes : List ℕ) → s < 16 → Keeps S c → SwitchWrote (r .log) s c bytes
         → Premises S (calls ++ atController c (controller-calls.receives bytes) ∷ [])
     switch-later s c bytes l keeps wrote =
         one-more (atController c (controller-calls.receives bytes)) keeps
-        (switch-arrives S r s c bytes (run-named .switches s c bytes l wrote) wrote) tt
+        (switch-arrives S r s c bytes (names .switches s c bytes l wrote) wrote) tt
 
     -- and so does whatever names no controller that keeps the rules: noise, and a stray's shares with good tags
     pub other-later : (s : ℕ) (bytes : List ℕ) → s < 16

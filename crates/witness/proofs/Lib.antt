@@ -1,6 +1,5 @@
 -- Laws of runs within the premises.
 pub mod Deliveries
-pub mod Wrote
 pub mod Extended
 pub mod Played
 pub mod EveningEnds

@@ -32,13 +32,13 @@ use Rattle.domain.specs.Agreement.{agreedChanges}
 use Rattle.domain.specs.Rounds.{acknowledgementNow, shareNow, Delivered, Round}
 use Rattle.domain.specs.Claim.{answered, unmade, AllBrought}
 use Rattle.domain.proofs.Reached.{Begun, Reached, ranged, last-small, run-reached}
+use Rattle.domain.proofs.Wrote.{entry, logged, share-wrote, switch-wrote}
 use Rattle.domain.proofs.Delivered.{switch-key, controller-key, acknowledgement-answered}
 use Rattle.domain.proofs.Turns.{Fair, walked}
 use Rattle.domain.proofs.Theorem.{demand3}
 use Rattle.witness.specs.Deliveries.{Honest}
 use Rattle.witness.specs.Played.{tells, shares, forEach, firstHalf, secondHalf, round, rounds}
 use Rattle.witness.proofs.Deliveries.{honest-call, share-arrives, switch-arrives}
-use Rattle.witness.proofs.Wrote.{entry, logged, share-wrote, switch-wrote}
 use Rattle.witness.proofs.Extended.{NoDecision, fair-join, fair-call, premises-join}
 
 module _ (S : Setting) (v : Valid S) where

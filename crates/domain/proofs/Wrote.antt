@@ -1,5 +1,5 @@
--- What an end wrote names that end and its receiver, be the numbers in it in range or not; so it does in the log of
--- every run within the premises. Assumes nothing.
+-- What a log keeps of a call. What an end wrote names that end and its receiver, be the numbers in it in range or not; so
+-- it does in the log of every run within the premises.
 use mathlib.Core.Path.{_≡_, refl, sym, ap, _∙_, subst}
 use mathlib.Core.List.{List, [], _∷_, List·Memᴰ·cases-cons, List·Memᴰ·not-nil}
 use mathlib.Core.Logic.{⊎-elim}
@@ -25,12 +25,12 @@ use Rattle.controller.specs.Calls.{writesShare}
 use Rattle.controller.specs.Writing.{shareOf, shareWritten}
 use Rattle.controller.proofs.Sent.{allowed, share-bytes}
 use Rattle.protocol.specs.Runs.{run}
-use Rattle.domain.specs.Settings.{Setting, Keeps, switchKeys, controllerKeys}
+use Rattle.domain.specs.Settings.{Setting, Valid, Keeps, switchKeys, controllerKeys}
 use Rattle.domain.specs.Calls.{Call, atSwitch, atController, Done, Run, start, step}
 use Rattle.domain.specs.Calls.{switchWrites, controllerWrites}
-use Rattle.domain.specs.Premises.{SwitchWrote, ControllerWrote, FromSwitch, FromController}
+use Rattle.domain.specs.Premises.{SwitchWrote, ControllerWrote, FromSwitch, FromController, Premises}
 use Rattle.domain.specs.Premises as premises
-use Rattle.domain.proofs.Reached.{Reached}
+use Rattle.domain.proofs.Reached.{Reached, run-keeps}
 
 -- the bytes of each kind of message
 module _ (key : List ℕ) where
@@ -159,3 +159,7 @@ module _ (S : Setting) where
     shares = λ c s bytes keeps w. absurd (none-wrote w);
     switches = λ s c bytes l w. absurd (none-said w);
   }
+
+  -- so it is in every run within the premises
+  pub run-named : Valid S → (calls : List Call) → Premises S calls → Named (run (step S) (start S) calls .log)
+  run-named v = run-keeps S v (λ r. Named (r .log)) (λ r R x h honest begun n. named-after r R n x) start-named
