@@ -38,7 +38,7 @@ use Rattle.witness.proofs.Deliveries.{honest-call, share-arrives, switc
 use Rattle.witness.proofs.Extended.{NoDecision, fair-join, fair-call, premises-join}
 
 module _ (S : Setting) (v : Valid S) where
-  nothing-fair : (r : Run) → Begun S r → Fair S v r []
+  pub nothing-fair : (r : Run) → Begun S r → Fair S v r []
   nothing-fair r b = record { in-run = tt; unforged = tt; begun = b }
 
   -- a list of calls for each number below k: within the premises if each is, wherever it begins
@@ -131,7 +131,7 @@ module _ (S : Setting) (v : Valid S) where
       share-comes r R b s c l (known, not-true _ (both .0)) (eqb-true _ _ (both .1)))
       (λ e. nothing-fair r b)
 
-  first-fair : (r : Run) → Reached S r → Begun S r → Fair S v r (firstHalf S r)
+  pub first-fair : (r : Run) → Reached S r → Begun S r → Fair S v r (firstHalf S r)
   first-fair = each-fair _ _ (λ u U b s l. each-fair (S .n) (tells S s) (tells-fair s (omega arith)) u U b)
 
   second-fair : (r : Run) → Reached S r → Begun S r → Fair S v r (secondHalf S r)
@@ -160,7 +160,7 @@ module _ (S : Setting) (v : Valid S) where
     abbrev Sent : Run → List Call → Type 0
     Sent u rest = shareNow S u c s .0 ≡ 0 → List·Memᴰ (atSwitch s (receives (shareNow S u c s .1))) rest
 
-    told : (r : Run) → Delivered S (λ u. acknowledgementNow S u s c)
+    pub told : (r : Run) → Delivered S (λ u. acknowledgementNow S u s c)
         (λ bytes. atController c (controller.receives bytes)) r (firstHalf S r)
     told r =
         subst (Sometime (step S) Told r) (append-nil (firstHalf S r))
