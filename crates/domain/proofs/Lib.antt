@@ -16,6 +16,7 @@ pub mod Safety
 pub mod Room
 pub mod Delivered
 pub mod Turns
+pub mod Told
 pub mod Live
 pub mod Vouched
 pub mod OneEnd

@@ -77,7 +77,7 @@ module _ (S : Setting) where
     unfolding step decisions
     by-switch s x = append-nil (decisions test c (r .log))
 
-    by-other : (i : ℕ) (x : controller-calls.Call) → (i ≡ c → ⊥)
+    pub by-other : (i : ℕ) (x : controller-calls.Call) → (i ≡ c → ⊥)
         → decisions test c (step S r (atController i x) .log) ≡ decisions test c (r .log)
     unfolding step decisions
     by-other i (controller-calls.receives bytes) n = append-nil (decisions test c (r .log))

@@ -5,18 +5,19 @@ use mathlib.Core.Bool.{false}
 use mathlib.Core.List.{List, [], _∷_, _++_, List·Memᴰ, List·Memᴰ·head, List·Memᴰ·tail, List·Memᴰ·cases-cons}
 use mathlib.Core.List.{List·Memᴰ·not-nil}
 use mathlib.Core.Logic.{inl, inr, ⊎-elim}
-use Prim.Native.Nat.{ℕ, zero, suc, _+_, _<_}
+use Prim.Native.Nat.{ℕ, zero, suc, _<_}
 use Rattle.flow.specs.declared.Rule.{Rule}
 use Rattle.flow.specs.declared.Table.{Table}
+use Rattle.controller.specs.Calls as controller-calls
 use Rattle.protocol.specs.Runs.{run, Every, Sometime, Rounds}
 use Rattle.protocol.proofs.Ends as protocol
 use Rattle.protocol.proofs.Worlds as protocol-worlds
 use Rattle.protocol.proofs.Claims as protocol-claims
 use Rattle.protocol.proofs.Runs.{run-append, every-append}
 use Rattle.domain.specs.Settings.{Setting, Valid}
-use Rattle.domain.specs.Calls.{Call, Run, start, step}
+use Rattle.domain.specs.Calls.{Call, atController, Run, start, step}
 use Rattle.domain.specs.Premises.{InRun, Unforged, Premises}
-use Rattle.domain.specs.Rounds.{Turn, Round}
+use Rattle.domain.specs.Rounds.{acknowledgementNow, Delivered, Turn, Round}
 use Rattle.domain.proofs.View.{domainOf, view, seen}
 use Rattle.domain.proofs.Agreed.{change-fine}
 use Rattle.domain.proofs.Reached.{Begun, Reached, Walked, begun-early, ranged, last-small, call-seen}
@@ -98,13 +99,28 @@ module _ (S : Setting) (v : Valid S) where
       (λ q. inr (subst (λ w. Sometime (protocol-worlds.step D) Q w (calls (step S r x) xs)) (s .is)
       (moment-seen P Q now (step S r x) R2 xs (fair-rest r (x ∷ []) xs f) q))) h
 
+  -- the acknowledgement of a number's switch is among the calls still to come
+  abbrev Told : ℕ → ℕ → World → Calls → Type 0
+  Told c k w rest =
+      List·Memᴰ (protocol-worlds.takesAcknowledgement c (D .switch k) (w .switches (D .switch k) .last)) rest
+
+  -- where each switch's acknowledgement reaches a controller, that of a number's switch does in the protocol
+  pub told-seen : (c : ℕ) → c < S .n → (r : Run) → Reached S r → (xs : List Call) → Fair r xs
+      → ((s : ℕ) → s < 16 → Delivered S (S .key c s) (λ u. acknowledgementNow u s c)
+      (λ bytes. atController c (controller-calls.receives bytes)) r xs)
+      → (k : ℕ) → protocol-worlds.Agreed D k → Sometime (protocol-worlds.step D) (Told c k) (view r) (calls r xs)
+  told-seen c l r R xs f told k a =
+      let s = D .switch k in
+      let known = change-fine S v (ranged S v) k a .known in
+      moment-seen _ (Told c k)
+      (λ u U begun rest p.
+      let fine = U .switches s known in
+      seen-there _ _ (acknowledgement-delivered S v u s c known l fine (last-small S v u U s)) u rest (p refl))
+      r R xs f (told s known)
+
   -- a full round is one of the protocol's
   module _ (r : Run) (R : Reached S r) (xs : List Call) (f : Fair r xs) (round : Round S r xs) where
-    -- the acknowledgement of a number's switch is among the calls still to come, and the share of a ready number is
-    abbrev Told : ℕ → ℕ → World → Calls → Type 0
-    Told c k w rest =
-        List·Memᴰ (protocol-worlds.takesAcknowledgement c (D .switch k) (w .switches (D .switch k) .last)) rest
-
+    -- the share of a ready number is among the calls still to come
     abbrev Comes : ℕ → ℕ → World → Calls → Type 0
     Comes c k w rest = protocol-worlds.Ready D (w .controllers c) k
         → List·Memᴰ (protocol-worlds.takesShare (D .switch k) c k (D .content k)) rest
@@ -121,17 +137,6 @@ module _ (S : Setting) (v : Valid S) where
 
       early : Fair r (turn .first)
       early = fair-first r (turn .first) (turn .second) both
-
-      turn-acknowledged : (k : ℕ) → protocol-worlds.Agreed D k
-          → Sometime (protocol-worlds.step D) (Told c k) (view r) (calls r (turn .first))
-      turn-acknowledged k a =
-          let s = D .switch k in
-          let known = change-fine S v (ranged S v) k a .known in
-          moment-seen _ (Told c k)
-          (λ u U begun rest p.
-          let fine = U .switches s known in
-          seen-there _ _ (acknowledgement-delivered S v u s c known l fine (last-small S v u U s)) u rest (p refl))
-          r R (turn .first) early (turn .acknowledged s known)
 
       turn-shared : (k : ℕ) → protocol-worlds.Agreed D k
           → Sometime (protocol-worlds.step D) (Comes c k) (view middle) (calls middle (turn .second))
@@ -156,7 +161,7 @@ module _ (S : Setting) (v : Valid S) where
           first = calls r (t .first);
           second = calls (middle c l keeps) (t .second);
           cut = ap (calls r) (t .cut) ∙ seen-append r (t .first) (t .second);
-          acknowledged = turn-acknowledged c l keeps;
+          acknowledged = told-seen c l r R (t .first) (early c l keeps) (t .acknowledged);
           shared = λ k still.
               subst (λ w. Sometime (protocol-worlds.step D) (Comes c k) w (calls (middle c l keeps) (t .second)))
               (walked r R (t .first) (early c l keeps) .is) (turn-shared c l keeps k (still .agreed));

@@ -236,7 +236,7 @@ module _ {Content Table : Type 0} (D : Domain Content Table) where
           w xs a (I, p) h .1
 
     -- the first half: an applied number is acknowledged at its end
-    acknowledged-after : (c j : ℕ) (w : World Content Table) → Invariant D w → j ≤ lasts w (D .switch j)
+    pub acknowledged-after : (c j : ℕ) (w : World Content Table) → Invariant D w → j ≤ lasts w (D .switch j)
         → (xs : List (Call Content)) → Every (step D) (Allowed D) w xs
         → Sometime (step D)
         (λ v rest. List·Memᴰ (takesAcknowledgement c (D .switch j) (v .switches (D .switch j) .last)) rest) w xs

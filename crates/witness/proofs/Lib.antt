@@ -2,5 +2,6 @@
 pub mod Deliveries
 pub mod Extended
 pub mod Played
+pub mod Finished
 pub mod EveningEnds
 pub mod Evening

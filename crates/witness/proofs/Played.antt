@@ -42,7 +42,7 @@ use Rattle.witness.proofs.Deliveries.{honest-call, share-arrives, switc
 use Rattle.witness.proofs.Extended.{NoDecision, fair-join, fair-call, premises-join}
 
 module _ (S : Setting) (v : Valid S) where
-  nothing-fair : (r : Run) → Begun S r → Fair S v r []
+  pub nothing-fair : (r : Run) → Begun S r → Fair S v r []
   nothing-fair r b = record { in-run = tt; unforged = tt; begun = b }
 
   -- a list of calls for each number below k: within the premises if each is, wherever it begins
@@ -140,7 +140,7 @@ module _ (S : Setting) (v : Valid S) where
       share-comes r R b s c l (known, not-true _ (both .0)) (both .1))
       (λ e. nothing-fair r b)
 
-  first-fair : (r : Run) → Reached S r → Begun S r → Fair S v r (firstHalf S r)
+  pub first-fair : (r : Run) → Reached S r → Begun S r → Fair S v r (firstHalf S r)
   first-fair = each-fair _ _ (λ u U b s l. each-fair (S .n) (tells S s) (tells-fair s (omega arith)) u U b)
 
   second-fair : (r : Run) → Reached S r → Begun S r → Fair S v r (secondHalf S r)
@@ -170,7 +170,7 @@ module _ (S : Setting) (v : Valid S) where
     Sent u rest = isMessage (shareNow u c s) ≡ true
         → List·Memᴰ (atSwitch s (receives (encode (S .key c s) (shareNow u c s)))) rest
 
-    told : (r : Run) → Delivered S (S .key c s) (λ u. acknowledgementNow u s c)
+    pub told : (r : Run) → Delivered S (S .key c s) (λ u. acknowledgementNow u s c)
         (λ bytes. atController c (controller.receives bytes)) r (firstHalf S r)
     told r =
         subst (Sometime (step S) Told r) (append-nil (firstHalf S r))

@@ -1,4 +1,6 @@
--- Deliveries of what was written, full rounds as lists of calls, and a worked evening.
+-- Deliveries of what was written, full rounds as lists of calls, lists of decisions brought to their end, and a worked
+-- evening.
 pub mod Deliveries
 pub mod Played
+pub mod Finished
 pub mod Evening
