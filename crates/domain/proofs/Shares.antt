@@ -1,7 +1,7 @@
 -- A share at a switch is what it is in the protocol: the slots seen one by one, those that agree counted among the n
 -- controllers, and every answer with its state. Assumes nothing.
 use mathlib.Core.Path.{_≡_, refl, sym, ap, _∙_}
-use mathlib.Core.Bool.{true, false}
+use mathlib.Core.Bool.{Bool, true, false, not, _&&_, _||_}
 use mathlib.Core.List.{List}
 use Prim.Native.Nat.{ℕ, _+_, _-_, _≤_, _<_}
 use native.Mathlib.Omega.{arith}
@@ -14,7 +14,7 @@ use Rattle.answer.proofs.Asked.{asked, reply-ap, reply-same, answered}
 use Rattle.answer.proofs.Bools.{by-bool, by-eq, and-parts, pick-ap}
 use Rattle.lists.specs.Arrays.{every}
 use Rattle.lists.proofs.Tails.{every-at}
-use Rattle.flow.specs.Rules.{wellFormed}
+use Rattle.flow.specs.Rules.{sameRule, wellFormed}
 use Rattle.flow.specs.declared.Rule.{Rule}
 use Rattle.flow.specs.declared.Table.{Table}
 use Rattle.switch.specs.Slots.{slotFor, emptySlot, slotEmpty, holds, agreeing, isQuorum, emptied}
@@ -37,6 +37,11 @@ empty-holds : (k : ℕ) (rule : Rule) (slot : Slot) → 0 < k → slotEmpty slot
 empty-holds k rule slot positive h =
     let zero = eqb-true (slot .number) 0 (and-parts (eqb (slot .number) 0) _ h .0) in
     rw (ne-eqb (slot .number) k (λ e. omega arith))
+
+-- question 18 asks for the rule where the number is the slot's, as it does in the protocol
+same-asked : (number rule : Bool) → (not number || number && rule) ≡ (not number || rule)
+same-asked true rule = refl
+same-asked false rule = refl
 
 -- those that agree in sixteen slots, of which the first n are in use
 counted-below : (k : ℕ) (rule : Rule) (slots : List Slot) (n : ℕ) → 0 < k → length slots ≡ 16 → n ≤ 16
@@ -107,7 +112,9 @@ module _ (S : Setting) (t : Switch) (ok : switchOk t ≡ true) (n : t .n ≡ S .
       → viewReply (takeShare t c k rule) ≡ protocol.takeShare D (viewSwitch t) c k rule
   unfolding takeShare protocol.takeShare
   share-view formed =
-      let qs = protocol.shareQuestions D (viewSwitch t) (viewSlot (slotOf t c)) k rule in
-      ap viewReply (asked (unchanged t) (taken t c k rule) 15 _ qs formed)
+      let slot = slotOf t c in
+      let qs = protocol.shareQuestions D (viewSwitch t) (viewSlot slot) k rule in
+      rw (same-asked (eqb (slot .number) k) (sameRule (slot .rule) rule))
+      (ap viewReply (asked (unchanged t) (taken t c k rule) 15 _ qs formed)
       ∙ reply-ap viewReply qs (unchanged t) (taken t c k rule)
-      ∙ reply-same qs _ _ _ (λ y. taken-view (ltb-true _ _ (answered qs refl y 16)))
+      ∙ reply-same qs _ _ _ (λ y. taken-view (ltb-true _ _ (answered qs refl y 16))))

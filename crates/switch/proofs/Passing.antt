@@ -1,20 +1,21 @@
 -- What a share that passes questions 15 to 19 obeys, and that it then passes them. Assumes nothing.
-use mathlib.Core.Path.{_≡_, refl}
+use mathlib.Core.Path.{_≡_, refl, ap}
 use mathlib.Core.Bool.{true, false, not}
 use Prim.Native.Nat.{ℕ, _≤_, _<_}
 use lib.Dec.{eqb}
 use borrow.Author.Tests.{ltb-true, leb-true, lt-ltb, le-leb, eq-eqb, ne-eqb}
 use Rattle.answer.specs.Ask.{firstNo, reply}
 use Rattle.answer.proofs.Asked.{answered}
-use Rattle.answer.proofs.Bools.{by-or, or-right, by-eq, tf}
+use Rattle.answer.proofs.Bools.{and-join, by-or, or-right, by-eq, tf}
 use Rattle.flow.specs.Rules.{wellFormed}
 use Rattle.flow.specs.Tables.{meaning}
 use Rattle.flow.specs.Changes.{roomFor}
 use Rattle.flow.specs.declared.Rule.{Rule}
-use Rattle.flow.proofs.Actions.{rule-sound, rule-mine}
+use Rattle.flow.proofs.Actions.{rule-mine}
 use Rattle.switch.specs.Shares.{keepsRule, shareQuestions}
 use Rattle.switch.specs.declared.Slot.{Slot}
 use Rattle.switch.specs.declared.Switch.{Switch}
+use Rattle.switch.proofs.Agreement.{holds-sound}
 
 pub record Passes (s : Switch) (slot : Slot) (number : ℕ) (rule : Rule) : Type 0 where
   pub formed : wellFormed rule ≡ true
@@ -28,12 +29,13 @@ module _ (s : Switch) (slot : Slot) (number : ℕ) (rule : Rule) where
   kept-rule h e =
       by-or (not (eqb (slot .number) number)) _ h
       (λ other. let n : not (eqb (slot .number) number) ≡ false = rw (eq-eqb _ _ e) in tf other n)
-      (λ same. rule-sound (slot .rule) rule same)
+      (λ same. ap (λ (held : Slot). held .rule) (holds-sound number rule slot same))
 
   keeps : (slot .number ≡ number → slot .rule ≡ rule) → keepsRule slot number rule ≡ true
   keeps h =
       by-eq (slot .number) number
-      (λ e. or-right (not (eqb (slot .number) number)) _ (rw (h e) (rule-mine rule)))
+      (λ e. or-right (not (eqb (slot .number) number)) _
+      (and-join (eqb (slot .number) number) _ (eq-eqb _ _ e) (rw (h e) (rule-mine rule))))
       (λ n. rw (ne-eqb _ _ n))
 
   pub passes : firstNo (shareQuestions s slot number rule) ≡ 0 → Passes s slot number rule

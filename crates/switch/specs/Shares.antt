@@ -6,7 +6,7 @@ use mathlib.Core.List.{List, [], _∷_, map}
 use lib.ListN.{getD, set}
 use lib.Dec.{ltb, leb, eqb}
 use Rattle.answer.specs.Ask.{Question, pick, reply}
-use Rattle.flow.specs.Rules.{sameRule, wellFormed}
+use Rattle.flow.specs.Rules.{wellFormed}
 use Rattle.flow.specs.Tables.{meaning}
 use Rattle.flow.specs.Changes.{changed, roomFor}
 use Rattle.flow.specs.declared.Rule.{Rule}
@@ -20,9 +20,9 @@ use Rattle.switch.specs.declared.Switch.{Switch}
 abbrev pub slotOf : Switch → ℕ → Slot
 slotOf s c = getD (s .slots) c emptySlot
 
--- where the number is the slot's, so is the rule
+-- where the number is the slot's, the slot holds the rule too
 abbrev pub keepsRule : Slot → ℕ → Rule → Bool
-keepsRule slot number rule = not (eqb (slot .number) number) || sameRule (slot .rule) rule
+keepsRule slot number rule = not (eqb (slot .number) number) || holds number rule slot
 
 -- the questions of a share, of the state and the sender's slot
 abbrev pub shareQuestions : Switch → Slot → ℕ → Rule → List Question

@@ -25,8 +25,7 @@ fn keeps_rule(slot: Slot, number: u32, rule: Rule) -> bool
     ensures { λ r. ⌜ r ≡ keepsRule slot number rule ⌝ }
 {
     if slot.number == number {
-        let held = slot.rule;
-        flow::same_rule(held, rule)
+        does_hold(slot, number, rule)
     } else {
         true
     }
