@@ -18,9 +18,8 @@ use Rattle.lists.proofs.Tails.{replicate-every, every-take, every-drop, every-s
 use Rattle.flow.specs.Rules.{wellFormed}
 use Rattle.flow.specs.Tables.{meaning}
 use Rattle.flow.specs.Changes.{roomFor}
-use Rattle.flow.specs.declared.Rule.{Rule}
 use Rattle.flow.proofs.Kept.{table-ok, apply-table}
-use Rattle.switch.specs.Slots.{slotFor, emptySlot, slotEmpty, slotOk, emptied}
+use Rattle.switch.specs.Slots.{emptySlot, slotEmpty, slotOk, emptied}
 use Rattle.switch.specs.States.{unchanged, inRange, fresh, setupOf, switchOk}
 use Rattle.switch.specs.Shares.{stored, applied}
 use Rattle.switch.specs.Raising.{withEvent, raisedBy}
@@ -71,35 +70,36 @@ emptied-empty number slot h = by-bool (leb (slot .number) number) (λ e. rw e) (
 
 module _ (s : Switch) where
   -- a share stored for a known controller, with a number above the last applied one
-  pub stored-kept : (c number : ℕ) (rule : Rule) → switchOk s ≡ true → c < s .n → s .last < number
-      → switchOk (stored s c number rule) ≡ true
-  stored-kept c number rule h known above =
+  pub stored-kept : (c : ℕ) (share : Slot) → switchOk s ≡ true → c < s .n → s .last < share .number
+      → switchOk (stored s c share) ≡ true
+  stored-kept c share h known above =
       let w = within s h in
-      let slot = slotFor number rule in
-      obeys (stored s c number rule) (record {
+      obeys (stored s c share) (record {
         known = w .known;
         some = w .some;
         few = w .few;
         table = w .table;
-        held = rw (take-set-lt (s .n) (s .slots) c slot known)
-            (every-set (slotOk (s .last)) _ c slot (w .held) (or-left _ _ (lt-ltb _ _ above)));
-        unused = rw (drop-set-lt (s .n) (s .slots) c slot known) (w .unused);
+        held = rw (take-set-lt (s .n) (s .slots) c share known)
+            (every-set (slotOk (s .last)) _ c share (w .held) (or-left _ _ (lt-ltb _ _ above)));
+        unused = rw (drop-set-lt (s .n) (s .slots) c share known) (w .unused);
       })
 
   -- a rule applied that the table has room for
-  pub applied-kept : (number : ℕ) (rule : Rule) → switchOk s ≡ true → wellFormed rule ≡ true
-      → roomFor rule (meaning (s .table)) ≡ true → switchOk (applied s number rule) ≡ true
-  applied-kept number rule h formed room =
+  pub applied-kept : (share : Slot) → switchOk s ≡ true → wellFormed (share .rule) ≡ true
+      → roomFor (share .rule) (meaning (s .table)) ≡ true → switchOk (applied s share) ≡ true
+  applied-kept share h formed room =
       let w = within s h in
-      obeys (applied s number rule) (record {
+      let empty = emptied (share .number) in
+      obeys (applied s share) (record {
         known = w .known;
         some = w .some;
         few = w .few;
-        table = apply-table rule (s .table) formed (w .table) room;
-        held = rw (take-map (emptied number) (s .n) (s .slots))
-            (every-map (slotOk number) (slotOk (s .last)) (emptied number) (λ x e. emptied-ok number x) _ (w .held));
-        unused = rw (drop-map (emptied number) (s .n) (s .slots))
-            (every-map slotEmpty slotEmpty (emptied number) (emptied-empty number) _ (w .unused));
+        table = apply-table (share .rule) (s .table) formed (w .table) room;
+        held = rw (take-map empty (s .n) (s .slots))
+            (every-map (slotOk (share .number)) (slotOk (s .last)) empty (λ x e. emptied-ok (share .number) x) _
+            (w .held));
+        unused = rw (drop-map empty (s .n) (s .slots))
+            (every-map slotEmpty slotEmpty empty (emptied-empty (share .number)) _ (w .unused));
       })
 
   -- an event in place of the one raised before
@@ -110,10 +110,10 @@ module _ (s : Switch) where
 module _ (keys : List ℕ) (s : Switch) where
   kept : {t : Switch} {ks : List ℕ} → Moves keys s t ks → switchOk s ≡ true → switchOk t ≡ true
   kept (event-only e) h = event-kept s e h
-  kept (share-stored a few) h = stored-kept s _ _ _ h (a .known) (a .passes .above)
-  kept (rule-applied {bytes} {c} {number} {rule} a) h =
-      let held = stored-kept s c number rule h (a .known) (a .passes .above) in
-      applied-kept (stored s c number rule) number rule held (a .passes .formed) (a .passes .room)
+  kept (share-stored a few) h = stored-kept s _ _ h (a .known) (a .passes .above)
+  kept (rule-applied {bytes} {c} {share} a) h =
+      let held = stored-kept s c share h (a .known) (a .passes .above) in
+      applied-kept (stored s c share) share held (a .passes .formed) (a .passes .room)
 
   names : {t : Switch} {ks : List ℕ} → Moves keys s t ks → (t .id ≡ s .id) × (t .n ≡ s .n)
   names (event-only e) = (refl, refl)
