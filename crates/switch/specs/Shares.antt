@@ -10,7 +10,7 @@ use Rattle.flow.specs.Rules.{wellFormed}
 use Rattle.flow.specs.Tables.{meaning}
 use Rattle.flow.specs.Changes.{changed, roomFor}
 use Rattle.switch.specs.Slots.{emptySlot, holds, isQuorum, emptied}
-use Rattle.switch.specs.States.{unchanged}
+use Rattle.switch.specs.States.{unchanged, withShares}
 use Rattle.switch.specs.declared.Reply.{Reply}
 use Rattle.switch.specs.declared.Slot.{Slot}
 use Rattle.switch.specs.declared.Switch.{Switch}
@@ -35,25 +35,12 @@ shareQuestions s slot share =
 
 -- the share in its sender's slot
 abbrev pub stored : Switch → ℕ → Slot → Switch
-stored s c share = record {
-  id = s .id;
-  n = s .n;
-  last = s .last;
-  table = s .table;
-  slots = set (s .slots) c share;
-  raised = s .raised;
-}
+stored s c share = withShares s (s .last) (s .table) (set (s .slots) c share)
 
 -- the rule applied: the share's number is the last applied one, and all slots with it or a lower one are emptied
 abbrev pub applied : Switch → Slot → Switch
-applied s share = record {
-  id = s .id;
-  n = s .n;
-  last = share .number;
-  table = changed (share .rule) (s .table);
-  slots = map (emptied (share .number)) (s .slots);
-  raised = s .raised;
-}
+applied s share =
+    withShares s (share .number) (changed (share .rule) (s .table)) (map (emptied (share .number)) (s .slots))
 
 -- a stored share counted: applied at the quorum, else held
 abbrev pub counted : Switch → Slot → Reply
