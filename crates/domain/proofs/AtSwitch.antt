@@ -113,7 +113,7 @@ module _ (S : Setting) (v : Valid S) (r : Run) (s : ℕ) (l : s < 16) (f : Switc
             let reply = receivedBy t keys bytes in
             let is : viewReply reply ≡ protocol.takeShare D (viewSwitch t) c k rule =
             ap viewReply (from-taken from)
-            ∙ share-view S t (f .ok) (f .n) (f .quiet .sixteen) c (rw (f .n) (from .known)) (slotFor k rule) formed in
+            ∙ share-view S t (f .ok) (f .n) (f .slots) c (rw (f .n) (from .known)) (slotFor k rule) formed in
             let made : madeIn (reply .answer) (atSwitch s (receives bytes)) (madeSo (r .log))
             ≡ pick (eqb (protocol.takeShare D (viewSwitch t) c k rule .answer) 1)
             (record { switch = s; number = k; content = rule } ∷ madeSo (r .log)) (madeSo (r .log)) =

@@ -1,15 +1,15 @@
 -- What calls keep: a setup answered 0 makes a state within its limits, every call leaves it so, and none lowers the
--- last applied number or changes the id or the number of controllers. Assumes nothing.
+-- last applied number or changes the id, the number of controllers or how many slots there are.
 use mathlib.Core.Path.{_≡_, refl, ap, _∙_}
 use mathlib.Core.Bool.{true, false}
 use mathlib.Core.List.{List, []}
 use Prim.Native.Nat.{ℕ, _≤_, _<_}
 use native.Mathlib.Omega.{arith}
-use lib.ListN.{replicate}
+use lib.ListN.{length, replicate, length-set, length-map}
 use lib.Seq.{take-set-lt, drop-set-lt}
 use lib.Dec.{ltb, leb}
 use borrow.Author.Tests.{lt-ltb, leb-false}
-use Rattle.answer.proofs.Asked.{refused, answered, reply-from}
+use Rattle.answer.proofs.Asked.{refused, answered, reply-from, reply-keeps}
 use Rattle.answer.proofs.Bools.{by-bool, or-left, or-right}
 use Rattle.lists.specs.Arrays.{everyTail}
 use Rattle.lists.proofs.Rising.{rising-last}
@@ -53,6 +53,10 @@ module _ (id n : ℕ) where
 
   pub setup-kept : setupOf id n .answer ≡ 0 → switchOk (setupOf id n .state) ≡ true
   setup-kept h = let g = setup-good h in rw (g .1) (fresh-kept (g .0))
+
+  -- sixteen slots, of a refused setup too
+  pub setup-slots : length (setupOf id n .state .slots) ≡ 16
+  setup-slots = reply-keeps (λ (r : Reply). length (r .state .slots) ≡ 16) _ _ _ (λ k. refl) (λ y. refl)
 
 -- the state of a refused setup is past its limits, so by `past-refused` every later call refuses it
 pub zero-refused : switchOk (fresh 0 0) ≡ false
@@ -120,6 +124,12 @@ module _ (keys : List ℕ) (s : Switch) where
   names (share-stored a few) = (refl, refl)
   names (rule-applied a) = (refl, refl)
 
+  as-many : {t : Switch} {ks : List ℕ} → Moves keys s t ks → length (t .slots) ≡ length (s .slots)
+  as-many (event-only e) = refl
+  as-many (share-stored {bytes} {c} {share} a few) = length-set (s .slots) c share
+  as-many (rule-applied {bytes} {c} {share} a) =
+      length-map (stored s c share .slots) (emptied (share .number)) ∙ length-set (s .slots) c share
+
   module _ (x : Call) where
     pub call-kept : switchOk s ≡ true → switchOk (replyTo keys s x .state) ≡ true
     call-kept = kept (moves keys s x)
@@ -129,6 +139,9 @@ module _ (keys : List ℕ) (s : Switch) where
 
     pub call-names : (replyTo keys s x .state .id ≡ s .id) × (replyTo keys s x .state .n ≡ s .n)
     call-names = names (moves keys s x)
+
+    pub call-slots : length (replyTo keys s x .state .slots) ≡ length (s .slots)
+    call-slots = as-many (moves keys s x)
 
   -- a state past its limits gets 20 from every call, and stays
   pub past-refused : (x : Call) → switchOk s ≡ false → replyTo keys s x ≡ unchanged s 20
@@ -151,6 +164,10 @@ module _ (keys : List ℕ) (s : Switch) (xs : List Call) where
   after-names =
       after-keeps (λ t. (t .id ≡ s .id) × (t .n ≡ s .n)) keys
       (λ t x h. let a = call-names keys t x in (a .0 ∙ h .0, a .1 ∙ h .1)) s xs (refl, refl)
+
+  pub after-slots : length (after keys s xs .slots) ≡ length (s .slots)
+  after-slots =
+      after-keeps (λ t. length (t .slots) ≡ length (s .slots)) keys (λ t x h. call-slots keys t x ∙ h) s xs refl
 
   pub after-refused : switchOk s ≡ false → after keys s xs ≡ s
   after-refused h = after-keeps (λ t. t ≡ s) keys (λ t x e. rw (e, past-refused keys s x h)) s xs refl

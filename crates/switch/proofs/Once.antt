@@ -8,7 +8,7 @@ use Prim.Native.Nat.{ℕ, _+_, _≤_, _<_}
 use native.Mathlib.Omega.{arith}
 use lib.Count.{ones}
 use lib.Dec.{leb, eqb}
-use lib.ListN.{length, set, replicate, length-set, length-map}
+use lib.ListN.{length, set, replicate}
 use lib.Seq.{set-getD}
 use borrow.Author.Tests.{leb-false, le-leb, ne-eqb}
 use Rattle.answer.proofs.Asked.{reply-keeps}
@@ -30,12 +30,12 @@ use Rattle.switch.proofs.Within.{within}
 use Rattle.switch.proofs.Taken.{Arrives, arrival}
 use Rattle.switch.proofs.Moves.{Moves, event-only, share-stored, rule-applied}
 use Rattle.switch.proofs.Moves.{numberMade, moves, numbers-made, after-keeps}
+use Rattle.switch.proofs.Kept.{setup-slots, after-slots}
 use Rattle.switch.proofs.Effects.{answered-1}
 use Rattle.switch.proofs.Agreement.{holds-sound, holds-mine, agreeing-count, agreeing-controllers}
 
--- there are sixteen slots, and no quorum lies in them for a number that could still be applied
+-- no quorum lies in the slots for a number that could still be applied
 pub record Quiet (s : Switch) : Type 0 where
-  pub sixteen : length (s .slots) ≡ 16
   pub short : (share : Slot) → s .last < share .number → ones (agreeing share (s .slots)) < quorumOf (s .n)
 
 -- a slot of another number does not hold this share
@@ -45,7 +45,6 @@ other-number share slot other = rw (ne-eqb _ _ other)
 -- a switch to which nothing has happened is quiet, and so is the state that a setup returns, a refused one too
 fresh-quiet : (id n : ℕ) → Quiet (fresh id n)
 fresh-quiet id n = record {
-  sixteen = refl;
   short = λ share above.
       let empty = other-number share emptySlot (λ e. omega arith) in
       omega (
@@ -74,7 +73,6 @@ module _ (s : Switch) (quiet : Quiet s) (c : ℕ) (share : Slot) where
   -- a share that is held leaves no quorum of its own, and none of another
   stored-quiet : ones (agreeing share (stored s c share .slots)) < quorumOf (s .n) → Quiet (stored s c share)
   stored-quiet few = record {
-    sixteen = length-set (s .slots) c share ∙ quiet .sixteen;
     short = λ other above.
         by-bool (holds other share)
         (λ same. omega (
@@ -100,9 +98,6 @@ module _ (s : Switch) (quiet : Quiet s) (c : ℕ) (share : Slot) where
   -- once a share is applied only higher numbers matter, and of these there are no more than before
   applied-quiet : s .last < share .number → Quiet (applied (stored s c share) share)
   applied-quiet newer = record {
-    sixteen =
-        length-map (stored s c share .slots) (emptied (share .number))
-        ∙ length-set (s .slots) c share ∙ quiet .sixteen;
     short = λ other above.
         let differs = other-number other share (λ e. omega arith) in
         omega (
@@ -116,7 +111,7 @@ module _ (s : Switch) (quiet : Quiet s) (c : ℕ) (share : Slot) where
 
 module _ (keys : List ℕ) where
   kept-quiet : {s t : Switch} {ks : List ℕ} → Moves keys s t ks → Quiet s → Quiet t
-  kept-quiet (event-only e) quiet = record { sixteen = quiet .sixteen; short = quiet .short }
+  kept-quiet (event-only e) quiet = record { short = quiet .short }
   kept-quiet {s} (share-stored {bytes} {c} {share} a few) quiet =
       stored-quiet s quiet c share (leb-false _ _ few)
   kept-quiet {s} (rule-applied {bytes} {c} {share} a) quiet =
@@ -138,14 +133,15 @@ pub record Completes (s : Switch) (keys bytes : List ℕ) : Type 0 where
 
 module _ (s : Switch) (keys bytes : List ℕ) where
   -- what is answered 1 was no quorum before and is one now, and a share stored brings one controller more
-  pub answered-completes : Quiet s → receivedBy s keys bytes .answer ≡ 1 → Completes s keys bytes
-  answered-completes quiet one =
+  pub answered-completes : length (s .slots) ≡ 16 → Quiet s → receivedBy s keys bytes .answer ≡ 1
+      → Completes s keys bytes
+  answered-completes sixteen quiet one =
       let m = answered-1 s keys bytes one in
       let c = m .controller in
       let share = m .share in
       let a = m .arrives in
       let few = quiet .short share (a .passes .above) in
-      let inside : c < length (s .slots) = omega (arith, a .known, within s (a .limits) .few, quiet .sixteen) in
+      let inside : c < length (s .slots) = omega (arith, a .known, within s (a .limits) .few) in
       let more = count-set-passing (holds share) (s .slots) c share emptySlot inside (m .new) (holds-mine share) in
       let was = agreeing-count share (s .slots) in
       let is = agreeing-count share (stored s c share .slots) in
@@ -180,9 +176,11 @@ pub exactly : (keys : List ℕ) (id n : ℕ) (xs : List Call) (bytes : List ℕ)
     (receivedBy s keys bytes .answer ≡ 1 → Completes s keys bytes)
     × (Completes s keys bytes → receivedBy s keys bytes .answer ≡ 1)
 exactly keys id n xs bytes =
-    let s = after keys (setupOf id n .state) xs in
-    let quiet = after-quiet keys (setupOf id n .state) xs (setup-quiet id n) in
-    (answered-completes s keys bytes quiet, completing-answered s keys bytes)
+    let start = setupOf id n .state in
+    let s = after keys start xs in
+    let sixteen = after-slots keys start xs ∙ setup-slots id n in
+    let quiet = after-quiet keys start xs (setup-quiet id n) in
+    (answered-completes s keys bytes sixteen quiet, completing-answered s keys bytes)
 
 module _ (keys : List ℕ) where
   -- the numbers of the shares answered 1 rise strictly, from above the last applied number
