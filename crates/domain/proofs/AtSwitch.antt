@@ -22,6 +22,7 @@ use Rattle.message.specs.declared.Message.the-variants.{Share, Refused}
 use Rattle.message.specs.Writing.{encode}
 use Rattle.message.proofs.Ends.{by-switch, share-number, from-10, decode-event}
 use Rattle.message.proofs.Lengths.{encode-length}
+use Rattle.switch.specs.Slots.{slotFor}
 use Rattle.switch.specs.States.{unchanged}
 use Rattle.switch.specs.Shares.{takeShare}
 use Rattle.switch.specs.Receiving.{receivedBy}
@@ -90,19 +91,19 @@ module _ (S : Setting) (v : Valid S) (r : Run) (s : ℕ) (l : s < 16) (f : Switc
     -- a share read, before its sender is asked for
     module _ (c to k : ℕ) (rule : Rule) (d : decode ends.Switch bytes ≡ Share c to k rule) where
       share-asked : receivedBy t keys bytes
-          ≡ reply (senderQuestions (t .n) (t .id) keys bytes c to) (unchanged t) (takeShare t c k rule)
+          ≡ reply (senderQuestions (t .n) (t .id) keys bytes c to) (unchanged t) (takeShare t c (slotFor k rule))
       unfolding receivedBy reply
       share-asked = rw (f .ok, eq-eqb _ _ store, d)
 
       share-read : receivedBy t keys bytes
-          ≡ reply (senderQuestions (S .n) s keys bytes c to) (unchanged t) (takeShare t c k rule)
+          ≡ reply (senderQuestions (S .n) s keys bytes c to) (unchanged t) (takeShare t c (slotFor k rule))
       share-read =
           share-asked
-          ∙ ap₂ (λ (n id : ℕ). reply (senderQuestions n id keys bytes c to) (unchanged t) (takeShare t c k rule))
+          ∙ ap₂ (λ (n id : ℕ). reply (senderQuestions n id keys bytes c to) (unchanged t) (takeShare t c (slotFor k rule)))
           (f .n) (f .id)
 
-      from-taken : From (S .n) s keys bytes c to → receivedBy t keys bytes ≡ takeShare t c k rule
-      from-taken from = share-read ∙ from-asked (S .n) s keys bytes c to (unchanged t) (takeShare t c k rule) from
+      from-taken : From (S .n) s keys bytes c to → receivedBy t keys bytes ≡ takeShare t c (slotFor k rule)
+      from-taken from = share-read ∙ from-asked (S .n) s keys bytes c to (unchanged t) (takeShare t c (slotFor k rule)) from
 
       module _ (from : From (S .n) s keys bytes c to) (formed : wellFormed rule ≡ true) where
         -- seen as it is
@@ -113,7 +114,7 @@ module _ (S : Setting) (v : Valid S) (r : Run) (s : ℕ) (l : s < 16) (f : Switc
             let reply = receivedBy t keys bytes in
             let is : viewReply reply ≡ protocol.takeShare D (viewSwitch t) c k rule =
             ap viewReply (from-taken from)
-            ∙ share-view S t (f .ok) (f .n) (f .quiet .sixteen) c (rw (f .n) (from .known)) k rule formed in
+            ∙ share-view S t (f .ok) (f .n) (f .slots) c (rw (f .n) (from .known)) (slotFor k rule) formed in
             let made : madeIn (reply .answer) (atSwitch s (receives bytes)) (madeSo (r .log))
             ≡ pick (eqb (protocol.takeShare D (viewSwitch t) c k rule .answer) 1)
             (record { switch = s; number = k; content = rule } ∷ madeSo (r .log)) (madeSo (r .log)) =
@@ -166,7 +167,7 @@ module _ (S : Setting) (v : Valid S) (r : Run) (s : ℕ) (l : s < 16) (f : Switc
           })
           (λ y. refused-seen (rw (e, y)) 15 (omega arith) (malformed from y)))
           (λ e.
-          let x = not-from (S .n) s keys bytes c to (unchanged t) (takeShare t c k rule) e in
+          let x = not-from (S .n) s keys bytes c to (unchanged t) (takeShare t c (slotFor k rule)) e in
           refused-seen (rw e) (x .0) (x .1) (share-read ∙ x .2))
 
     -- whatever is received

@@ -19,7 +19,6 @@ use Rattle.switch.specs.States.{switchOk}
 use Rattle.switch.specs.Calls as switch-calls
 use Rattle.switch.specs.declared.Switch.{Switch}
 use Rattle.switch.proofs.Kept as switch-kept
-use Rattle.switch.proofs.Once.{Quiet, setup-quiet, call-quiet}
 use Rattle.controller.specs.Changes.{meaning, stillUndone}
 use Rattle.controller.specs.States as controller
 use Rattle.controller.specs.States.{unchanged, controllerOk}
@@ -47,7 +46,7 @@ module _ (S : Setting) where
     pub id : t .id ≡ s
     pub n : t .n ≡ S .n
     pub ok : switchOk t ≡ true
-    pub quiet : Quiet t
+    pub slots : length (t .slots) ≡ 16
 
   pub switch-set : Valid S → (s : ℕ) → s < 16
       → switch.setupOf s (S .n) ≡ switch.unchanged (switch.fresh s (S .n)) 0
@@ -61,7 +60,7 @@ module _ (S : Setting) where
         id = rw is;
         n = rw is;
         ok = switch-kept.setup-kept s (S .n) (rw is);
-        quiet = setup-quiet s (S .n);
+        slots = switch-kept.setup-slots s (S .n);
       }
 
   pub switch-after : (keys : List ℕ) (s : ℕ) (t : Switch) (x : switch-calls.Call) → SwitchFine s t
@@ -72,7 +71,7 @@ module _ (S : Setting) where
         id = names .0 ∙ f .id;
         n = names .1 ∙ f .n;
         ok = switch-kept.call-kept keys t x (f .ok);
-        quiet = call-quiet keys t x (f .quiet);
+        slots = switch-kept.call-slots keys t x ∙ f .slots;
       }
 
   -- a controller that has come along the list as far as a

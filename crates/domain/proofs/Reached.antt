@@ -237,10 +237,10 @@ module _ (S : Setting) where
           let same : bytes ≡ b = cc in
           let m = answered-1 (r .switches s) (switchKeys S s) b one in (
             m .controller,
-            m .number,
-            m .rule,
-            ap (decode ends.Switch) same ∙ m .arrives .share
-                ∙ ap (λ (i : ℕ). Share (m .controller) i (m .number) (m .rule)) (R .switches s l .id),
+            m .share .number,
+            m .share .rule,
+            ap (decode ends.Switch) same ∙ m .arrives .read
+                ∙ ap (λ (i : ℕ). Share (m .controller) i (m .share .number) (m .share .rule)) (R .switches s l .id),
           )
       read-so s (writes kind c frame at) l bytes e one = never cc
       read-so s (manages m) l bytes e one = never cc

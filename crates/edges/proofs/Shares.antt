@@ -17,11 +17,12 @@ use Rattle.message.specs.Keys.{keyAt}
 use Rattle.message.specs.Writing.{encode}
 use Rattle.message.specs.declared.Message.the-variants.{Share}
 use Rattle.message.proofs.Inverse.{decode-encode, encode-sealed}
-use Rattle.switch.specs.Slots.{emptySlot, holds, isQuorum}
+use Rattle.switch.specs.Slots.{slotFor, emptySlot, holds, isQuorum}
 use Rattle.switch.specs.States.{unchanged, inRange, fresh, setupOf, switchOk}
 use Rattle.switch.specs.Shares.{slotOf, shareQuestions, stored, taken, takeShare}
 use Rattle.switch.specs.Receiving.{receivedBy}
 use Rattle.switch.specs.declared.Reply.{Reply}
+use Rattle.switch.specs.declared.Slot.{Slot}
 use Rattle.switch.specs.declared.Switch.{Switch}
 use Rattle.switch.proofs.Kept.{setup-kept}
 use Rattle.switch.proofs.Passing.{Passes, passing}
@@ -29,10 +30,9 @@ use Rattle.edges.specs.Asking.{Open, InRange, share, good, refused, verd
 use Rattle.edges.specs.Table.{rule}
 
 -- a new share that passed all questions is held or applied
-new-good : (s : Switch) (c number : ℕ) (r : Rule) → holds number r (slotOf s c) ≡ false
-    → verdict 1 (taken s c number r .answer) ≡ good
-new-good s c number r new =
-    by-bool (isQuorum (s .n) number r (stored s c number r .slots)) (λ q. rw (new, q)) (λ q. rw (new, q))
+new-good : (s : Switch) (c : ℕ) (x : Slot) → holds x (slotOf s c) ≡ false → verdict 1 (taken s c x .answer) ≡ good
+new-good s c x new =
+    by-bool (isQuorum (s .n) x (stored s c x .slots)) (λ q. rw (new, q)) (λ q. rw (new, q))
 
 -- an empty table has room for every rule
 room-empty : (r : Rule) → roomFor r [] ≡ true
@@ -65,11 +65,15 @@ module _ (o : Open) (h : InRange o) where
     abbrev r : Rule
     r = rule o prefix length
 
+    -- what the share asks for, as a slot holds it
+    abbrev asks : Slot
+    asks = slotFor number r
+
     -- the bytes are read as this share, and pass every question before its own
     comes :
         receivedBy (setupOf (o .switch) (o .n) .state) (o .keys)
         (encode (keyAt (o .keys) (o .sender)) (Share (o .sender) (o .switch) number r))
-        ≡ takeShare start (o .sender) number r
+        ≡ takeShare start (o .sender) asks
     unfolding receivedBy reply
     comes =
         let m = Share (o .sender) (o .switch) number r in
@@ -97,14 +101,14 @@ module _ (o : Open) (h : InRange o) where
     share-good formed some =
         let slot = slotOf start (o .sender) in
         let none : slot .number ≡ 0 = rw slot-is in
-        let passes : Passes start slot number r = record {
+        let passes : Passes start slot asks = record {
           formed = formed;
           above = some;
           latest = omega arith;
           same = λ e. absurd (omega arith);
           room = room-empty r;
         } in
-        let other : holds number r slot ≡ false = rw (none, ne-eqb 0 number (λ z. omega arith)) in
-        let asked : takeShare start (o .sender) number r ≡ taken start (o .sender) number r =
-        all-yes (shareQuestions start slot number r) (unchanged start) _ refl (passing start slot number r passes) in
-        rw (comes, asked) (new-good start (o .sender) number r other)
+        let other : holds asks slot ≡ false = rw (none, ne-eqb 0 number (λ z. omega arith)) in
+        let asked : takeShare start (o .sender) asks ≡ taken start (o .sender) asks =
+        all-yes (shareQuestions start slot asks) (unchanged start) _ refl (passing start slot asks passes) in
+        rw (comes, asked) (new-good start (o .sender) asks other)

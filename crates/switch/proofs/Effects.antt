@@ -17,8 +17,7 @@ use Rattle.flow.specs.Changes.{changed}
 use Rattle.flow.specs.Lookups.{lookupOf}
 use Rattle.flow.specs.declared.Found.{Found}
 use Rattle.flow.specs.declared.Found.the-variants as found
-use Rattle.flow.specs.declared.Rule.{Rule}
-use Rattle.switch.specs.Slots.{quorumOf, slotFor, emptySlot, holds, agreeing, emptied}
+use Rattle.switch.specs.Slots.{quorumOf, emptySlot, holds, agreeing, emptied}
 use Rattle.switch.specs.States.{switchOk}
 use Rattle.switch.specs.Shares.{slotOf, stored}
 use Rattle.switch.specs.Receiving.{receivedBy}
@@ -35,36 +34,33 @@ use Rattle.switch.proofs.Taken.{Arrives, Received, refused, repeated, h
 -- answer 1 and the state t: with this share a quorum agrees, and its rule is applied
 pub record Made (s : Switch) (keys bytes : List ℕ) (t : Switch) : Type 0 where
   pub controller : ℕ
-  pub number : ℕ
-  pub rule : Rule
-  pub arrives : Arrives s keys bytes controller number rule
-  pub new : holds number rule (slotOf s controller) ≡ false
-  pub quorum : quorumOf (s .n) ≤ ones (agreeing number rule (stored s controller number rule .slots))
-  pub last : t .last ≡ number
-  pub table : t .table ≡ changed rule (s .table)
-  pub slots : t .slots ≡ map (emptied number) (s .slots)
+  pub share : Slot
+  pub arrives : Arrives s keys bytes controller share
+  pub new : holds share (slotOf s controller) ≡ false
+  pub quorum : quorumOf (s .n) ≤ ones (agreeing share (stored s controller share .slots))
+  pub last : t .last ≡ share .number
+  pub table : t .table ≡ changed (share .rule) (s .table)
+  pub slots : t .slots ≡ map (emptied (share .number)) (s .slots)
   pub raised : t .raised ≡ s .raised
 
 -- answer 0: the share is in its sender's slot, and no quorum agrees yet
 pub record Held (s : Switch) (keys bytes : List ℕ) (t : Switch) : Type 0 where
   pub controller : ℕ
-  pub number : ℕ
-  pub rule : Rule
-  pub arrives : Arrives s keys bytes controller number rule
-  pub new : holds number rule (slotOf s controller) ≡ false
-  pub short : ones (agreeing number rule (stored s controller number rule .slots)) < quorumOf (s .n)
+  pub share : Slot
+  pub arrives : Arrives s keys bytes controller share
+  pub new : holds share (slotOf s controller) ≡ false
+  pub short : ones (agreeing share (stored s controller share .slots)) < quorumOf (s .n)
   pub last : t .last ≡ s .last
   pub table : t .table ≡ s .table
-  pub slots : t .slots ≡ set (s .slots) controller (slotFor number rule)
+  pub slots : t .slots ≡ set (s .slots) controller share
   pub raised : t .raised ≡ s .raised
 
 -- answer 2: the slot of its sender held the share before
 pub record Repeated (s : Switch) (keys bytes : List ℕ) (t : Switch) : Type 0 where
   pub controller : ℕ
-  pub number : ℕ
-  pub rule : Rule
-  pub arrives : Arrives s keys bytes controller number rule
-  pub old : holds number rule (slotOf s controller) ≡ true
+  pub share : Slot
+  pub arrives : Arrives s keys bytes controller share
+  pub old : holds share (slotOf s controller) ≡ true
   pub state : t ≡ s
 
 -- a slot after the rule of a number was applied
@@ -81,35 +77,34 @@ emptied-at number slots i =
     ∙ List·getD-map (emptied number) slots i emptySlot
 
 -- the share itself is emptied too, whatever its sender's slot held up to its number
-share-emptied : (number : ℕ) (rule : Rule) (slots : List Slot) (c : ℕ) → getD slots c emptySlot .number ≤ number
-    → map (emptied number) (set slots c (slotFor number rule)) ≡ map (emptied number) slots
-share-emptied number rule slots c h =
-    map-set-same (emptied number) slots c (slotFor number rule) emptySlot
-    (emptied-low number (slotFor number rule) (omega arith) ∙ sym (emptied-low number (getD slots c emptySlot) h))
+share-emptied : (share : Slot) (slots : List Slot) (c : ℕ) → getD slots c emptySlot .number ≤ share .number
+    → map (emptied (share .number)) (set slots c share) ≡ map (emptied (share .number)) slots
+share-emptied share slots c h =
+    let number = share .number in
+    map-set-same (emptied number) slots c share emptySlot
+    (emptied-low number share (omega arith) ∙ sym (emptied-low number (getD slots c emptySlot) h))
 
 -- what each answer says: by the cases of a reception
 module _ {s : Switch} {keys bytes : List ℕ} where
   made-by : {t : Switch} → Received s keys bytes 1 t → Made s keys bytes t
   made-by (refused l) = absurd (omega arith)
-  made-by (made {c} {number} {rule} a y enough) = record {
+  made-by (made {c} {share} a y enough) = record {
     controller = c;
-    number = number;
-    rule = rule;
+    share = share;
     arrives = a;
     new = y;
     quorum = leb-true _ _ enough;
     last = refl;
     table = refl;
-    slots = share-emptied number rule (s .slots) c (a .passes .latest);
+    slots = share-emptied share (s .slots) c (a .passes .latest);
     raised = refl;
   }
 
   held-by : {t : Switch} → Received s keys bytes 0 t → Held s keys bytes t
   held-by (refused l) = absurd (omega arith)
-  held-by (held {c} {number} {rule} a y few) = record {
+  held-by (held {c} {share} a y few) = record {
     controller = c;
-    number = number;
-    rule = rule;
+    share = share;
     arrives = a;
     new = y;
     short = leb-false _ _ few;
@@ -121,8 +116,8 @@ module _ {s : Switch} {keys bytes : List ℕ} where
 
   repeated-by : {t : Switch} → Received s keys bytes 2 t → Repeated s keys bytes t
   repeated-by (refused l) = absurd (omega arith)
-  repeated-by (repeated {c} {number} {rule} a y) =
-      record { controller = c; number = number; rule = rule; arrives = a; old = y; state = refl }
+  repeated-by (repeated {c} {share} a y) =
+      record { controller = c; share = share; arrives = a; old = y; state = refl }
 
   refused-by : {k : ℕ} {t : Switch} → Received s keys bytes k t → 2 < k → (10 ≤ k) × (t ≡ s)
   refused-by (refused l) h = (l, refl)
@@ -148,22 +143,22 @@ module _ (s : Switch) (keys bytes : List ℕ) where
 -- slot by slot: once a rule is applied, those with its number or a lower one are empty, its sender's among them, and
 -- the others are as they were
 module _ (s : Switch) (keys bytes : List ℕ) (t : Switch) (m : Made s keys bytes t) where
-  slot-after : (i : ℕ) → slotOf t i ≡ emptied (m .number) (slotOf s i)
-  slot-after i = rw (m .slots) (emptied-at (m .number) (s .slots) i)
+  slot-after : (i : ℕ) → slotOf t i ≡ emptied (m .share .number) (slotOf s i)
+  slot-after i = rw (m .slots) (emptied-at (m .share .number) (s .slots) i)
 
-  pub slot-emptied : (i : ℕ) → slotOf s i .number ≤ m .number → slotOf t i ≡ emptySlot
-  slot-emptied i h = slot-after i ∙ emptied-low (m .number) (slotOf s i) h
+  pub slot-emptied : (i : ℕ) → slotOf s i .number ≤ m .share .number → slotOf t i ≡ emptySlot
+  slot-emptied i h = slot-after i ∙ emptied-low (m .share .number) (slotOf s i) h
 
   pub sender-emptied : slotOf t (m .controller) ≡ emptySlot
   sender-emptied = slot-emptied (m .controller) (m .arrives .passes .latest)
 
-  pub slot-stays : (i : ℕ) → m .number < slotOf s i .number → slotOf t i ≡ slotOf s i
-  slot-stays i h = slot-after i ∙ emptied-high (m .number) (slotOf s i) h
+  pub slot-stays : (i : ℕ) → m .share .number < slotOf s i .number → slotOf t i ≡ slotOf s i
+  slot-stays i h = slot-after i ∙ emptied-high (m .share .number) (slotOf s i) h
 
 -- while it is held, its sender's slot holds it, and every other is as it was
 module _ (s : Switch) (keys bytes : List ℕ) (t : Switch) (h : Held s keys bytes t) where
   pub slot-stored : h .controller < length (s .slots)
-      → slotOf t (h .controller) ≡ slotFor (h .number) (h .rule)
+      → slotOf t (h .controller) ≡ h .share
   slot-stored l = rw (h .slots) (getD-set-same (s .slots) (h .controller) _ emptySlot l)
 
   pub slot-kept : (i : ℕ) → (i ≡ h .controller → ⊥) → slotOf t i ≡ slotOf s i

@@ -10,7 +10,6 @@ use borrow.Author.Tests.{le-leb, lt-leb}
 use Rattle.answer.proofs.Bools.{and-parts}
 use Rattle.lists.specs.Arrays.{everyTail, every}
 use Rattle.lists.proofs.Stores.{store, drop-map}
-use Rattle.flow.specs.Rules.{emptyRule}
 use Rattle.switch.specs.Slots.{emptySlot, slotEmpty, emptied}
 use Rattle.switch.specs.declared.Slot.{Slot}
 use Rattle.switch.proofs.Agreement.{holds-sound}
@@ -51,7 +50,7 @@ module _ (number : ℕ) where
   all-empty [] h = refl
   all-empty (slot ∷ slots) h =
       let t = and-parts (slotEmpty slot) _ h in
-      let none = holds-sound 0 emptyRule slot (t .0) in
+      let none = holds-sound emptySlot slot (t .0) in
       let stays : emptied number emptySlot ≡ emptySlot = rw (le-leb 0 number (omega arith)) in
       let kept = ap (emptied number) none ∙ stays ∙ sym none in
       rw (kept, all-empty slots (t .1))

@@ -9,6 +9,7 @@ pub mod Effects
 pub mod Agreement
 pub mod Once
 pub mod Senders
+pub mod Latest
 mod Bits
 mod Emptied
 mod Steps

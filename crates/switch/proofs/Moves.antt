@@ -11,7 +11,6 @@ use Rattle.answer.specs.Ask.{pick}
 use Rattle.answer.proofs.Asked.{reply-keeps}
 use Rattle.answer.proofs.Bools.{and-join, pick-same}
 use Rattle.lists.specs.Rising.{risingFrom, lastOf}
-use Rattle.flow.specs.declared.Rule.{Rule}
 use Rattle.message.proofs.Ends.{share-number}
 use Rattle.switch.specs.Slots.{isQuorum}
 use Rattle.switch.specs.Shares.{stored, applied}
@@ -20,6 +19,7 @@ use Rattle.switch.specs.States.{switchOk}
 use Rattle.switch.specs.Calls.{Managing, raises, Call, receives, writes, manages}
 use Rattle.switch.specs.Calls.{messageFor, isThere, managedBy, numberIn, replyTo, after}
 use Rattle.switch.specs.declared.Reply.{Reply}
+use Rattle.switch.specs.declared.Slot.{Slot}
 use Rattle.switch.specs.declared.Switch.{Switch}
 use Rattle.switch.proofs.Taken.{Arrives, Received, refused, repeated, held, made, received}
 use Rattle.switch.proofs.Sent.{written-state}
@@ -49,11 +49,11 @@ managed-leaves s (raises cause) =
 -- what a call does to a state, and the numbers that it makes
 pub data Moves (keys : List ℕ) (s : Switch) : Switch → List ℕ → Type 0 where
   shares-left : {t : Switch} → Leaves s t → Moves keys s t []
-  share-stored : {bytes : List ℕ} {c number : ℕ} {rule : Rule} → Arrives s keys bytes c number rule
-      → isQuorum (s .n) number rule (stored s c number rule .slots) ≡ false
-      → Moves keys s (stored s c number rule) []
-  rule-applied : {bytes : List ℕ} {c number : ℕ} {rule : Rule} → Arrives s keys bytes c number rule
-      → Moves keys s (applied (stored s c number rule) number rule) (number ∷ [])
+  share-stored : {bytes : List ℕ} {c : ℕ} {share : Slot} → Arrives s keys bytes c share
+      → isQuorum (s .n) share (stored s c share .slots) ≡ false
+      → Moves keys s (stored s c share) []
+  rule-applied : {bytes : List ℕ} {c : ℕ} {share : Slot} → Arrives s keys bytes c share
+      → Moves keys s (applied (stored s c share) share) (share .number ∷ [])
 
 module _ (keys : List ℕ) (s : Switch) where
   -- nothing changes, and bytes are received
@@ -65,7 +65,7 @@ module _ (keys : List ℕ) (s : Switch) where
   reception (refused {k} l) = rw (ne-eqb k 1 (λ e. omega arith)) stays
   reception (repeated a y) = stays
   reception (held a y few) = share-stored a few
-  reception {bytes} (made a y enough) = rw (share-number bytes (a .share)) (rule-applied a)
+  reception {bytes} (made a y enough) = rw (share-number bytes (a .read)) (rule-applied a)
 
   -- every call; only one that brings bytes makes a number
   pub moves : (x : Call) → Moves keys s (replyTo keys s x .state) (numberMade (replyTo keys s x .answer) x)

@@ -8,7 +8,7 @@ use Prim.Native.Nat.{ℕ, _+_, _≤_, _<_}
 use native.Mathlib.Omega.{arith}
 use lib.Count.{ones}
 use lib.Dec.{leb, eqb}
-use lib.ListN.{length, set, replicate, length-set, length-map}
+use lib.ListN.{length, set, replicate}
 use lib.Seq.{set-getD}
 use borrow.Author.Tests.{leb-false, le-leb, ne-eqb}
 use Rattle.answer.proofs.Asked.{reply-keeps}
@@ -18,8 +18,7 @@ use Rattle.lists.specs.Kinds.{among, different}
 use Rattle.lists.specs.Rising.{risingFrom, lastOf}
 use Rattle.lists.proofs.Counts.{count-replicate, count-set-passing, count-set-failing, count-map}
 use Rattle.lists.proofs.Rising.{rising-between, rising-different, rising-append, last-append}
-use Rattle.flow.specs.declared.Rule.{Rule}
-use Rattle.switch.specs.Slots.{quorumOf, slotFor, emptySlot, holds, agreeing, isQuorum, emptied, controllers}
+use Rattle.switch.specs.Slots.{quorumOf, emptySlot, holds, agreeing, isQuorum, emptied, controllers}
 use Rattle.switch.specs.States.{unchanged, fresh, setupOf}
 use Rattle.switch.specs.Shares.{slotOf, stored, applied}
 use Rattle.switch.specs.Receiving.{receivedBy}
@@ -31,29 +30,27 @@ use Rattle.switch.proofs.Within.{within}
 use Rattle.switch.proofs.Taken.{Arrives, arrival}
 use Rattle.switch.proofs.Moves.{Moves, shares-left, share-stored, rule-applied}
 use Rattle.switch.proofs.Moves.{numberMade, moves, numbers-made, after-keeps}
+use Rattle.switch.proofs.Kept.{setup-slots, after-slots}
 use Rattle.switch.proofs.Effects.{answered-1}
 use Rattle.switch.proofs.Agreement.{holds-sound, holds-mine, agreeing-count, agreeing-controllers}
 
--- there are sixteen slots, and no quorum lies in them for a number that could still be applied
+-- no quorum lies in the slots for a number that could still be applied
 pub record Quiet (s : Switch) : Type 0 where
-  pub sixteen : length (s .slots) ≡ 16
-  pub short : (number : ℕ) (rule : Rule) → s .last < number
-      → ones (agreeing number rule (s .slots)) < quorumOf (s .n)
+  pub short : (share : Slot) → s .last < share .number → ones (agreeing share (s .slots)) < quorumOf (s .n)
 
--- a slot of another number does not hold this one
-other-number : (number : ℕ) (rule : Rule) (slot : Slot) → (slot .number ≡ number → ⊥) → holds number rule slot ≡ false
-other-number number rule slot other = rw (ne-eqb _ _ other)
+-- a slot of another number does not hold this share
+other-number : (share slot : Slot) → (slot .number ≡ share .number → ⊥) → holds share slot ≡ false
+other-number share slot other = rw (ne-eqb _ _ other)
 
 -- a switch to which nothing has happened is quiet, and so is the state that a setup returns, a refused one too
 fresh-quiet : (id n : ℕ) → Quiet (fresh id n)
 fresh-quiet id n = record {
-  sixteen = refl;
-  short = λ number rule above.
-      let empty = other-number number rule emptySlot (λ e. omega arith) in
+  short = λ share above.
+      let empty = other-number share emptySlot (λ e. omega arith) in
       omega (
         arith,
-        agreeing-count number rule (replicate 16 emptySlot),
-        count-replicate (holds number rule) 16 emptySlot empty,
+        agreeing-count share (replicate 16 emptySlot),
+        count-replicate (holds share) 16 emptySlot empty,
       );
 }
 
@@ -62,72 +59,65 @@ setup-quiet id n =
     reply-keeps (λ r. Quiet (r .state)) _ (unchanged (fresh 0 0)) (unchanged (fresh id n) 0)
     (λ k. fresh-quiet 0 0) (λ e. fresh-quiet id n)
 
-module _ (s : Switch) (quiet : Quiet s) (c number : ℕ) (rule : Rule) where
-  -- a share stored leaves no more that agree on another content k, r
-  others-fewer : (k : ℕ) (r : Rule) → holds k r (slotFor number rule) ≡ false
-      → count (holds k r) (stored s c number rule .slots) ≤ ones (agreeing k r (s .slots))
-  others-fewer k r other =
+module _ (s : Switch) (quiet : Quiet s) (c : ℕ) (share : Slot) where
+  -- a share stored leaves no more that agree on another one
+  others-fewer : (other : Slot) → holds other share ≡ false
+      → count (holds other) (stored s c share .slots) ≤ ones (agreeing other (s .slots))
+  others-fewer other differs =
       omega (
         arith,
-        agreeing-count k r (s .slots),
-        count-set-failing (holds k r) (s .slots) c (slotFor number rule) other,
+        agreeing-count other (s .slots),
+        count-set-failing (holds other) (s .slots) c share differs,
       )
 
-  -- a share that is held leaves no quorum of its own content, and none of another
-  stored-quiet : ones (agreeing number rule (stored s c number rule .slots)) < quorumOf (s .n)
-      → Quiet (stored s c number rule)
+  -- a share that is held leaves no quorum of its own, and none of another
+  stored-quiet : ones (agreeing share (stored s c share .slots)) < quorumOf (s .n) → Quiet (stored s c share)
   stored-quiet few = record {
-    sixteen = length-set (s .slots) c (slotFor number rule) ∙ quiet .sixteen;
-    short = λ k r above.
-        by-bool (holds k r (slotFor number rule))
+    short = λ other above.
+        by-bool (holds other share)
         (λ same. omega (
           arith,
-          ap (λ (slot : Slot). ones (agreeing (slot .number) (slot .rule) (stored s c number rule .slots)))
-              (holds-sound k r (slotFor number rule) same),
+          ap (λ (slot : Slot). ones (agreeing slot (stored s c share .slots))) (holds-sound other share same),
         ))
-        (λ other. omega (
+        (λ differs. omega (
           arith,
-          others-fewer k r other,
-          quiet .short k r above,
-          agreeing-count k r (stored s c number rule .slots),
+          others-fewer other differs,
+          quiet .short other above,
+          agreeing-count other (stored s c share .slots),
         ));
   }
 
   -- an emptied slot holds a higher number only if it held it before
-  emptied-holds : (k : ℕ) (r : Rule) → number < k → (slot : Slot) → holds k r (emptied number slot) ≡ true
-      → holds k r slot ≡ true
-  emptied-holds k r above slot h =
-      by-bool (leb (slot .number) number)
-      (λ e. tf (rw e at h) (other-number k r emptySlot (λ z. omega arith)))
+  emptied-holds : (other : Slot) → share .number < other .number → (slot : Slot)
+      → holds other (emptied (share .number) slot) ≡ true → holds other slot ≡ true
+  emptied-holds other above slot h =
+      by-bool (leb (slot .number) (share .number))
+      (λ e. tf (rw e at h) (other-number other emptySlot (λ z. omega arith)))
       (λ e. rw e at h)
 
   -- once a share is applied only higher numbers matter, and of these there are no more than before
-  applied-quiet : s .last < number → Quiet (applied (stored s c number rule) number rule)
+  applied-quiet : s .last < share .number → Quiet (applied (stored s c share) share)
   applied-quiet newer = record {
-    sixteen =
-        length-map (stored s c number rule .slots) (emptied number)
-        ∙ length-set (s .slots) c (slotFor number rule) ∙ quiet .sixteen;
-    short = λ k r above.
-        let other = other-number k r (slotFor number rule) (λ e. omega arith) in
+    short = λ other above.
+        let differs = other-number other share (λ e. omega arith) in
         omega (
           arith,
-          others-fewer k r other,
-          quiet .short k r (omega arith),
-          agreeing-count k r (map (emptied number) (stored s c number rule .slots)),
-          count-map (holds k r) (emptied number) (emptied-holds k r above) (stored s c number rule .slots),
+          others-fewer other differs,
+          quiet .short other (omega arith),
+          agreeing-count other (map (emptied (share .number)) (stored s c share .slots)),
+          count-map (holds other) (emptied (share .number)) (emptied-holds other above) (stored s c share .slots),
         );
   }
 
 module _ (keys : List ℕ) where
   kept-quiet : {s t : Switch} {ks : List ℕ} → Moves keys s t ks → Quiet s → Quiet t
   kept-quiet (shares-left l) quiet = record {
-    sixteen = rw (l .slots) (quiet .sixteen);
-    short = λ k r above. rw (l .slots, l .n) (quiet .short k r (rw (l .last) at above));
+    short = λ share above. rw (l .slots, l .n) (quiet .short share (rw (l .last) at above));
   }
-  kept-quiet {s} (share-stored {bytes} {c} {number} {rule} a few) quiet =
-      stored-quiet s quiet c number rule (leb-false _ _ few)
-  kept-quiet {s} (rule-applied {bytes} {c} {number} {rule} a) quiet =
-      applied-quiet s quiet c number rule (a .passes .above)
+  kept-quiet {s} (share-stored {bytes} {c} {share} a few) quiet =
+      stored-quiet s quiet c share (leb-false _ _ few)
+  kept-quiet {s} (rule-applied {bytes} {c} {share} a) quiet =
+      applied-quiet s quiet c share (a .passes .above)
 
   pub call-quiet : (s : Switch) (x : Call) → Quiet s → Quiet (replyTo keys s x .state)
   call-quiet s x = kept-quiet (moves keys s x)
@@ -135,53 +125,49 @@ module _ (keys : List ℕ) where
   pub after-quiet : (s : Switch) (xs : List Call) → Quiet s → Quiet (after keys s xs)
   after-quiet = after-keeps Quiet keys call-quiet
 
--- bytes that are a passing share by which those that agree on its number and rule, one too few before, are the quorum
+-- bytes that are a passing share by which those that agree on it, one too few before, are the quorum
 pub record Completes (s : Switch) (keys bytes : List ℕ) : Type 0 where
   pub controller : ℕ
-  pub number : ℕ
-  pub rule : Rule
-  pub arrives : Arrives s keys bytes controller number rule
-  pub before : length (controllers number rule (s .slots)) + 1 ≡ quorumOf (s .n)
-  pub afterwards : length (controllers number rule (stored s controller number rule .slots)) ≡ quorumOf (s .n)
+  pub share : Slot
+  pub arrives : Arrives s keys bytes controller share
+  pub before : length (controllers share (s .slots)) + 1 ≡ quorumOf (s .n)
+  pub afterwards : length (controllers share (stored s controller share .slots)) ≡ quorumOf (s .n)
 
 module _ (s : Switch) (keys bytes : List ℕ) where
   -- what is answered 1 was no quorum before and is one now, and a share stored brings one controller more
-  pub answered-completes : Quiet s → receivedBy s keys bytes .answer ≡ 1 → Completes s keys bytes
-  answered-completes quiet one =
+  pub answered-completes : length (s .slots) ≡ 16 → Quiet s → receivedBy s keys bytes .answer ≡ 1
+      → Completes s keys bytes
+  answered-completes sixteen quiet one =
       let m = answered-1 s keys bytes one in
       let c = m .controller in
-      let number = m .number in
-      let rule = m .rule in
+      let share = m .share in
       let a = m .arrives in
-      let few = quiet .short number rule (a .passes .above) in
-      let inside : c < length (s .slots) = omega (arith, a .known, within s (a .limits) .few, quiet .sixteen) in
-      let more = count-set-passing (holds number rule) (s .slots) c (slotFor number rule) emptySlot inside (m .new)
-      (holds-mine number rule) in
-      let was = agreeing-count number rule (s .slots) in
-      let is = agreeing-count number rule (stored s c number rule .slots) in
+      let few = quiet .short share (a .passes .above) in
+      let inside : c < length (s .slots) = omega (arith, a .known, within s (a .limits) .few) in
+      let more = count-set-passing (holds share) (s .slots) c share emptySlot inside (m .new) (holds-mine share) in
+      let was = agreeing-count share (s .slots) in
+      let is = agreeing-count share (stored s c share .slots) in
       record {
         controller = c;
-        number = number;
-        rule = rule;
+        share = share;
         arrives = a;
-        before = omega (arith, m .quorum, agreeing-controllers number rule (s .slots));
-        afterwards = omega (arith, m .quorum, agreeing-controllers number rule (stored s c number rule .slots));
+        before = omega (arith, m .quorum, agreeing-controllers share (s .slots));
+        afterwards = omega (arith, m .quorum, agreeing-controllers share (stored s c share .slots));
       }
 
   -- what completes the quorum is no repeat, since storing a repeat changes no slot, and so it is stored and counted
   pub completing-answered : Completes s keys bytes → receivedBy s keys bytes .answer ≡ 1
   completing-answered p =
       let c = p .controller in
-      let number = p .number in
-      let rule = p .rule in
-      let enough : isQuorum (s .n) number rule (stored s c number rule .slots) ≡ true =
-      le-leb (quorumOf (s .n)) (ones (agreeing number rule (stored s c number rule .slots)))
-      (omega (arith, p .afterwards, agreeing-controllers number rule (stored s c number rule .slots))) in
-      let new : holds number rule (slotOf s c) ≡ false =
+      let share = p .share in
+      let enough : isQuorum (s .n) share (stored s c share .slots) ≡ true =
+      le-leb (quorumOf (s .n)) (ones (agreeing share (stored s c share .slots)))
+      (omega (arith, p .afterwards, agreeing-controllers share (stored s c share .slots))) in
+      let new : holds share (slotOf s c) ≡ false =
       is-false _ (λ h.
-      let same : stored s c number rule .slots ≡ s .slots =
-      ap (set (s .slots) c) (sym (holds-sound number rule (slotOf s c) h)) ∙ set-getD (s .slots) c emptySlot in
-      omega (arith, p .before, p .afterwards, ap (λ (slots : List Slot). length (controllers number rule slots)) same))
+      let same : stored s c share .slots ≡ s .slots =
+      ap (set (s .slots) c) (sym (holds-sound share (slotOf s c) h)) ∙ set-getD (s .slots) c emptySlot in
+      omega (arith, p .before, p .afterwards, ap (λ (slots : List Slot). length (controllers share slots)) same))
       in
       ap (λ (r : Reply). r .answer) (arrival s keys bytes (p .arrives)) ∙ rw (new, enough)
 
@@ -192,9 +178,11 @@ pub exactly : (keys : List ℕ) (id n : ℕ) (xs : List Call) (bytes : List ℕ)
     (receivedBy s keys bytes .answer ≡ 1 → Completes s keys bytes)
     × (Completes s keys bytes → receivedBy s keys bytes .answer ≡ 1)
 exactly keys id n xs bytes =
-    let s = after keys (setupOf id n .state) xs in
-    let quiet = after-quiet keys (setupOf id n .state) xs (setup-quiet id n) in
-    (answered-completes s keys bytes quiet, completing-answered s keys bytes)
+    let start = setupOf id n .state in
+    let s = after keys start xs in
+    let sixteen = after-slots keys start xs ∙ setup-slots id n in
+    let quiet = after-quiet keys start xs (setup-quiet id n) in
+    (answered-completes s keys bytes sixteen quiet, completing-answered s keys bytes)
 
 module _ (keys : List ℕ) where
   -- the numbers of the shares answered 1 rise strictly, from above the last applied number

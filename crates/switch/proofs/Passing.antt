@@ -1,7 +1,7 @@
 -- What a share that passes questions 15 to 19 obeys, and that it then passes them. Assumes nothing.
-use mathlib.Core.Path.{_≡_, refl}
+use mathlib.Core.Path.{_≡_, refl, ap, _∙_}
 use mathlib.Core.Bool.{true, false, not}
-use Prim.Native.Nat.{ℕ, _≤_, _<_}
+use Prim.Native.Nat.{_≤_, _<_}
 use lib.Dec.{eqb}
 use borrow.Author.Tests.{ltb-true, leb-true, lt-ltb, le-leb, eq-eqb, ne-eqb}
 use Rattle.answer.specs.Ask.{firstNo, reply}
@@ -10,35 +10,35 @@ use Rattle.answer.proofs.Bools.{by-or, or-right, by-eq, tf}
 use Rattle.flow.specs.Rules.{wellFormed}
 use Rattle.flow.specs.Tables.{meaning}
 use Rattle.flow.specs.Changes.{roomFor}
-use Rattle.flow.specs.declared.Rule.{Rule}
-use Rattle.flow.proofs.Actions.{rule-sound, rule-mine}
+use Rattle.switch.specs.Slots.{holds}
 use Rattle.switch.specs.Shares.{keepsRule, shareQuestions}
 use Rattle.switch.specs.declared.Slot.{Slot}
 use Rattle.switch.specs.declared.Switch.{Switch}
+use Rattle.switch.proofs.Agreement.{holds-sound, holds-mine}
 
-pub record Passes (s : Switch) (slot : Slot) (number : ℕ) (rule : Rule) : Type 0 where
-  pub formed : wellFormed rule ≡ true
-  pub above : s .last < number
-  pub latest : slot .number ≤ number
-  pub same : slot .number ≡ number → slot .rule ≡ rule
-  pub room : roomFor rule (meaning (s .table)) ≡ true
+pub record Passes (s : Switch) (slot share : Slot) : Type 0 where
+  pub formed : wellFormed (share .rule) ≡ true
+  pub above : s .last < share .number
+  pub latest : slot .number ≤ share .number
+  pub same : slot .number ≡ share .number → slot ≡ share
+  pub room : roomFor (share .rule) (meaning (s .table)) ≡ true
 
-module _ (s : Switch) (slot : Slot) (number : ℕ) (rule : Rule) where
-  kept-rule : keepsRule slot number rule ≡ true → slot .number ≡ number → slot .rule ≡ rule
+module _ (s : Switch) (slot share : Slot) where
+  kept-rule : keepsRule slot share ≡ true → slot .number ≡ share .number → slot ≡ share
   kept-rule h e =
-      by-or (not (eqb (slot .number) number)) _ h
-      (λ other. let n : not (eqb (slot .number) number) ≡ false = rw (eq-eqb _ _ e) in tf other n)
-      (λ same. rule-sound (slot .rule) rule same)
+      by-or (not (eqb (slot .number) (share .number))) _ h
+      (λ other. let n : not (eqb (slot .number) (share .number)) ≡ false = rw (eq-eqb _ _ e) in tf other n)
+      (λ same. holds-sound share slot same)
 
-  keeps : (slot .number ≡ number → slot .rule ≡ rule) → keepsRule slot number rule ≡ true
+  keeps : (slot .number ≡ share .number → slot ≡ share) → keepsRule slot share ≡ true
   keeps h =
-      by-eq (slot .number) number
-      (λ e. or-right (not (eqb (slot .number) number)) _ (rw (h e) (rule-mine rule)))
+      by-eq (slot .number) (share .number)
+      (λ e. or-right (not (eqb (slot .number) (share .number))) _ (ap (holds share) (h e) ∙ holds-mine share))
       (λ n. rw (ne-eqb _ _ n))
 
-  pub passes : firstNo (shareQuestions s slot number rule) ≡ 0 → Passes s slot number rule
+  pub passes : firstNo (shareQuestions s slot share) ≡ 0 → Passes s slot share
   passes h =
-      let yes = answered (shareQuestions s slot number rule) refl h in
+      let yes = answered (shareQuestions s slot share) refl h in
       record {
         formed = yes 15;
         above = ltb-true _ _ (yes 16);
@@ -47,7 +47,7 @@ module _ (s : Switch) (slot : Slot) (number : ℕ) (rule : Rule) where
         room = yes 19;
       }
 
-  pub passing : Passes s slot number rule → firstNo (shareQuestions s slot number rule) ≡ 0
+  pub passing : Passes s slot share → firstNo (shareQuestions s slot share) ≡ 0
   unfolding reply
   passing p =
       rw (p .formed, lt-ltb _ _ (p .above), le-leb _ _ (p .latest), keeps (p .same), p .room)

@@ -1,6 +1,6 @@
--- What a slot holds was sent. After every list of calls from a setup each slot is empty, or its number and rule came in
--- a share from its controller, for this switch, with the tag of that controller's key. So a rule is applied only where
--- a quorum of different controllers each sent it, tagged with its own key. Assumes nothing.
+-- What a slot holds was sent. After every list of calls from a setup each slot is empty, or its share came from its
+-- controller, for this switch, with the tag of that controller's key. So a rule is applied only where a quorum of
+-- different controllers each sent it, tagged with its own key.
 use mathlib.Core.Path.{_≡_, refl, ap}
 use mathlib.Core.Bool.{true}
 use mathlib.Core.List.{List, [], _∷_, _++_, List·Memᴰ, List·Memᴰ·head, List·Memᴰ·tail}
@@ -14,12 +14,11 @@ use Rattle.answer.proofs.Asked.{reply-keeps}
 use Rattle.answer.proofs.Bools.{by-bool, by-eq, by-le}
 use Rattle.lists.specs.Kinds.{among, different}
 use Rattle.flow.specs.Changes.{changed}
-use Rattle.flow.specs.declared.Rule.{Rule}
 use Rattle.message.specs.Keys.{keyAt}
 use Rattle.message.specs.Reading.{decode, isSealed}
 use Rattle.message.specs.declared.End.the-variants as ends
 use Rattle.message.specs.declared.Message.the-variants.{Share}
-use Rattle.switch.specs.Slots.{quorumOf, slotFor, emptySlot, controllers}
+use Rattle.switch.specs.Slots.{quorumOf, emptySlot, controllers}
 use Rattle.switch.specs.States.{setupOf}
 use Rattle.switch.specs.Shares.{slotOf, stored}
 use Rattle.switch.specs.Receiving.{receivedBy}
@@ -33,29 +32,27 @@ use Rattle.switch.proofs.Moves.{Leaves, managed-leaves}
 use Rattle.switch.proofs.Effects.{emptied-at, answered-1}
 use Rattle.switch.proofs.Agreement.{agreement}
 
--- among the calls, bytes were received that are a share of this number and rule, from controller c for switch id, with
--- the tag of the key of c
-pub record Came (keys : List ℕ) (id : ℕ) (calls : List Call) (c number : ℕ) (rule : Rule) : Type 0 where
+-- among the calls, bytes were received that are this share, from controller c for switch id, with the tag of the key of c
+pub record Came (keys : List ℕ) (id : ℕ) (calls : List Call) (c : ℕ) (share : Slot) : Type 0 where
   pub bytes : List ℕ
   pub call : List·Memᴰ (receives bytes) calls
-  pub share : decode ends.Switch bytes ≡ Share c id number rule
+  pub read : decode ends.Switch bytes ≡ Share c id (share .number) (share .rule)
   pub sealed : isSealed (keyAt keys c) bytes ≡ true
 
 -- each slot that is not empty is that of one of the n controllers, and what it holds came from this controller
 abbrev pub SlotsCame : List ℕ → List Call → Switch → Type 0
 SlotsCame keys calls s = (c : ℕ) → 0 < slotOf s c .number
-    → (c < s .n) × Came keys (s .id) calls c (slotOf s c .number) (slotOf s c .rule)
+    → (c < s .n) × Came keys (s .id) calls c (slotOf s c)
 
--- from s to t a rule was applied that came, with its number, from each of a quorum of different controllers below n
+-- from s to t a share's rule was applied, and this share came from each of a quorum of different controllers below n
 pub record ByQuorum (keys : List ℕ) (calls : List Call) (s t : Switch) : Type 0 where
-  pub number : ℕ
-  pub rule : Rule
-  pub last : t .last ≡ number
-  pub table : t .table ≡ changed rule (s .table)
+  pub share : Slot
+  pub last : t .last ≡ share .number
+  pub table : t .table ≡ changed (share .rule) (s .table)
   pub senders : List ℕ
   pub enough : quorumOf (s .n) ≤ length senders
   pub none-twice : different eqb senders ≡ true
-  pub came : (c : ℕ) → among eqb c senders ≡ true → (c < s .n) × Came keys (s .id) calls c number rule
+  pub came : (c : ℕ) → among eqb c senders ≡ true → (c < s .n) × Came keys (s .id) calls c share
 
 no-number : (n i : ℕ) → getD (replicate n emptySlot) i emptySlot .number ≡ 0
 no-number zero i = refl
@@ -71,15 +68,14 @@ module _ (keys : List ℕ) (calls : List Call) where
 
   module _ (s : Switch) (all : SlotsCame keys calls s) where
     -- a share stored came by the bytes received, and no other slot changes
-    stored-came : {bytes : List ℕ} {c number : ℕ} {rule : Rule} → List·Memᴰ (receives bytes) calls
-        → Arrives s keys bytes c number rule → SlotsCame keys calls (stored s c number rule)
-    stored-came {bytes} {c} {number} {rule} there a i =
-        let slot = slotFor number rule in
+    stored-came : {bytes : List ℕ} {c : ℕ} {share : Slot} → List·Memᴰ (receives bytes) calls
+        → Arrives s keys bytes c share → SlotsCame keys calls (stored s c share)
+    stored-came {bytes} {c} {share} there a i =
         by-eq i c
-        (λ e. by-le (length (s .slots)) c (λ out. rw (set-out (s .slots) c slot out) (all i))
-        (λ inside. rw (e, getD-set-same (s .slots) c slot emptySlot inside)
-        (λ some. (a .known, record { bytes = bytes; call = there; share = a .share; sealed = a .sealed }))))
-        (λ other. rw (getD-set-other (s .slots) c i slot emptySlot other) (all i))
+        (λ e. by-le (length (s .slots)) c (λ out. rw (set-out (s .slots) c share out) (all i))
+        (λ inside. rw (e, getD-set-same (s .slots) c share emptySlot inside)
+        (λ some. (a .known, record { bytes = bytes; call = there; read = a .read; sealed = a .sealed }))))
+        (λ other. rw (getD-set-other (s .slots) c i share emptySlot other) (all i))
 
     -- a rule applied does no more to the slots than empty some
     reception-came : {bytes : List ℕ} {k : ℕ} {t : Switch} → List·Memᴰ (receives bytes) calls
@@ -87,10 +83,10 @@ module _ (keys : List ℕ) (calls : List Call) where
     reception-came there (refused l) = all
     reception-came there (repeated a y) = all
     reception-came there (held a y few) = stored-came there a
-    reception-came there (made {c} {number} {rule} a y enough) = λ i.
-        let slots = stored s c number rule .slots in
-        let at = emptied-at number slots i in
-        by-bool (leb (getD slots i emptySlot .number) number)
+    reception-came there (made {c} {share} a y enough) = λ i.
+        let slots = stored s c share .slots in
+        let at = emptied-at (share .number) slots i in
+        by-bool (leb (getD slots i emptySlot .number) (share .number))
         (λ e. rw (at, e) (λ some. absurd (omega arith))) (λ e. rw (at, e) (stored-came there a i))
 
     leaves-came : {t : Switch} → Leaves s t → SlotsCame keys calls t
@@ -109,14 +105,13 @@ module _ (keys : List ℕ) (calls : List Call) where
         → ByQuorum keys calls s (receivedBy s keys bytes .state)
     by-quorum bytes there one =
         let m = answered-1 s keys bytes one in
-        let now = stored s (m .controller) (m .number) (m .rule) in
-        let agreed = agreement (m .number) (m .rule) (now .slots) in
+        let now = stored s (m .controller) (m .share) in
+        let agreed = agreement (m .share) (now .slots) in
         record {
-          number = m .number;
-          rule = m .rule;
+          share = m .share;
           last = m .last;
           table = m .table;
-          senders = controllers (m .number) (m .rule) (now .slots);
+          senders = controllers (m .share) (now .slots);
           enough = omega (arith, m .quorum, agreed .as-many);
           none-twice = agreed .none-twice;
           came = λ c h.

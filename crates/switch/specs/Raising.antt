@@ -3,7 +3,7 @@ use Prim.Native.Nat.{ℕ, _+_}
 use mathlib.Core.List.{[], _∷_}
 use lib.Dec.{ltb}
 use Rattle.answer.specs.Ask.{reply}
-use Rattle.switch.specs.States.{unchanged, switchOk}
+use Rattle.switch.specs.States.{unchanged, withRaised, switchOk}
 use Rattle.switch.specs.declared.Raised.{Raised}
 use Rattle.switch.specs.declared.Reply.{Reply}
 use Rattle.switch.specs.declared.Stepped.{Stepped}
@@ -17,17 +17,7 @@ nextEvent r cause =
     (record { answer = 0; raised = record { serial = r .serial + 1; cause = cause } })
 
 abbrev pub withEvent : Switch → Stepped → Reply
-withEvent s e = record {
-  answer = e .answer;
-  state = record {
-    id = s .id;
-    n = s .n;
-    last = s .last;
-    table = s .table;
-    slots = s .slots;
-    raised = e .raised;
-  };
-}
+withEvent s e = unchanged (withRaised s (e .raised)) (e .answer)
 
 unfoldable pub raisedBy : Switch → ℕ → Reply
 raisedBy s cause = reply ((20, switchOk s) ∷ []) (unchanged s) (withEvent s (nextEvent (s .raised) cause))

@@ -8,6 +8,7 @@ use Rattle.message.specs.Senders.{senderQuestions}
 use Rattle.message.specs.declared.End.the-variants as ends
 use Rattle.message.specs.declared.Message.{Message}
 use Rattle.message.specs.declared.Message.the-variants.{Event, Share, Acknowledgement, Refused}
+use Rattle.switch.specs.Slots.{slotFor}
 use Rattle.switch.specs.States.{unchanged, stateQuestions}
 use Rattle.switch.specs.Shares.{takeShare}
 use Rattle.switch.specs.declared.Reply.{Reply}
@@ -17,7 +18,7 @@ use Rattle.switch.specs.declared.Switch.{Switch}
 -- at a switch
 abbrev pub arrived : Switch → List ℕ → List ℕ → Message → Reply
 arrived s keys bytes (Share c to number rule) =
-    reply (senderQuestions (s .n) (s .id) keys bytes c to) (unchanged s) (takeShare s c number rule)
+    reply (senderQuestions (s .n) (s .id) keys bytes c to) (unchanged s) (takeShare s c (slotFor number rule))
 arrived s keys bytes (Refused k) = unchanged s k
 arrived s keys bytes (Event from to serial cause) = unchanged s 11
 arrived s keys bytes (Acknowledgement from to number) = unchanged s 11

@@ -6,7 +6,7 @@ use lib.Count.{ones}
 use lib.Dec.{ltb, leb, eqb}
 use Rattle.answer.specs.Ask.{pick}
 use Rattle.lists.specs.Counts.{places}
-use Rattle.flow.specs.Rules.{sameRule, emptyRule, ruleEmpty}
+use Rattle.flow.specs.Rules.{sameRule, emptyRule}
 use Rattle.flow.specs.declared.Rule.{Rule}
 use Rattle.switch.specs.declared.Slot.{Slot}
 
@@ -14,6 +14,7 @@ use Rattle.switch.specs.declared.Slot.{Slot}
 abbrev pub quorumOf : ℕ → ℕ
 quorumOf n = (n - 1) / 3 + 1
 
+-- a share's number and rule, as a slot holds them: where a controller is known, its share is this value
 abbrev pub slotFor : ℕ → Rule → Slot
 slotFor number rule = record { number = number; rule = rule }
 
@@ -21,30 +22,30 @@ slotFor number rule = record { number = number; rule = rule }
 abbrev pub emptySlot : Slot
 emptySlot = slotFor 0 emptyRule
 
+-- whether a slot holds this share: the one comparison of what slots hold
+abbrev pub holds : Slot → Slot → Bool
+holds share slot = eqb (slot .number) (share .number) && sameRule (slot .rule) (share .rule)
+
 abbrev pub slotEmpty : Slot → Bool
-slotEmpty slot = eqb (slot .number) 0 && ruleEmpty (slot .rule)
+slotEmpty slot = holds emptySlot slot
 
 -- empty, or with a number above the last applied one
 abbrev pub slotOk : ℕ → Slot → Bool
 slotOk last slot = ltb last (slot .number) || slotEmpty slot
 
--- whether a slot holds this number and rule
-abbrev pub holds : ℕ → Rule → Slot → Bool
-holds number rule slot = eqb (slot .number) number && sameRule (slot .rule) rule
-
--- the set of controllers whose slots hold this number and rule: controller c at bit c
-unfoldable pub agreeing : ℕ → Rule → List Slot → ℕ
-agreeing number rule [] = 0
-agreeing number rule (slot ∷ slots) = agreeing number rule slots * 2 + pick (holds number rule slot) 1 0
+-- the set of controllers whose slots hold this share: controller c at bit c
+unfoldable pub agreeing : Slot → List Slot → ℕ
+agreeing share [] = 0
+agreeing share (slot ∷ slots) = agreeing share slots * 2 + pick (holds share slot) 1 0
 
 -- its ones are counted: as many as n controllers need, or more
-abbrev pub isQuorum : ℕ → ℕ → Rule → List Slot → Bool
-isQuorum n number rule slots = leb (quorumOf n) (ones (agreeing number rule slots))
+abbrev pub isQuorum : ℕ → Slot → List Slot → Bool
+isQuorum n share slots = leb (quorumOf n) (ones (agreeing share slots))
 
 -- a slot with this number or a lower one is emptied
 abbrev pub emptied : ℕ → Slot → Slot
 emptied number slot = pick (leb (slot .number) number) emptySlot slot
 
--- the controllers whose slots hold this number and rule, as a list
-abbrev pub controllers : ℕ → Rule → List Slot → List ℕ
-controllers number rule slots = places (holds number rule) 0 slots
+-- the controllers whose slots hold this share, as a list
+abbrev pub controllers : Slot → List Slot → List ℕ
+controllers share slots = places (holds share) 0 slots

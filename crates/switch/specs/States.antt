@@ -1,5 +1,4 @@
 -- The state of a switch, its setup and its limits (document 01, "Switch end" and questions 20 and 21).
--- Assumes nothing.
 use Prim.Native.Nat.{ℕ, _*_}
 use mathlib.Core.Bool.{Bool, _&&_}
 use mathlib.Core.List.{List, [], _∷_}
@@ -8,14 +7,39 @@ use lib.Dec.{ltb, leb, eqb}
 use Rattle.answer.specs.Ask.{Question, reply}
 use Rattle.lists.specs.Arrays.{every}
 use Rattle.flow.specs.Tables.{tableOf, tableOk}
+use Rattle.flow.specs.declared.Table.{Table}
 use Rattle.message.specs.Keys.{keyLength}
 use Rattle.switch.specs.Slots.{emptySlot, slotEmpty, slotOk}
+use Rattle.switch.specs.declared.Raised.{Raised}
 use Rattle.switch.specs.declared.Reply.{Reply}
+use Rattle.switch.specs.declared.Slot.{Slot}
 use Rattle.switch.specs.declared.Switch.{Switch}
 
 -- an answer with the state as it went in
 abbrev pub unchanged : Switch → ℕ → Reply
 unchanged s k = record { answer = k; state = s }
+
+-- a state with what a share moves in its place: the last applied number, the table and the slots
+abbrev pub withShares : Switch → ℕ → Table → List Slot → Switch
+withShares s last table slots = record {
+  id = s .id;
+  n = s .n;
+  last = last;
+  table = table;
+  slots = slots;
+  raised = s .raised;
+}
+
+-- a state with this event as the last raised one
+abbrev pub withRaised : Switch → Raised → Switch
+withRaised s raised = record {
+  id = s .id;
+  n = s .n;
+  last = s .last;
+  table = s .table;
+  slots = s .slots;
+  raised = raised;
+}
 
 -- n and the id in range
 abbrev pub inRange : ℕ → ℕ → Bool

@@ -21,7 +21,7 @@ pub use states::setup;
 pub use writing::write_acknowledgement;
 pub use writing::write_event;
 
-// The latest share held from a controller; number 0 marks an empty slot.
+// A share's number and rule. A slot holds the latest share from its controller; number 0 marks an empty slot.
 pub struct Slot {
     pub number: u32,
     pub rule: Rule,

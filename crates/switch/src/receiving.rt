@@ -5,6 +5,7 @@ ghost use Rattle.message.specs.declared.Message.the-variants as kinds;
 ghost use Rattle.switch.specs.States.{switchOk};
 ghost use Rattle.switch.specs.Receiving.{arrived, receivedBy};
 use crate::Reply;
+use crate::Slot;
 use crate::Switch;
 use crate::shares::take_share;
 use crate::states::replied;
@@ -31,7 +32,11 @@ fn receive_share(
     if k != answer::DONE {
         return replied(s, k);
     }
-    take_share(s, controller, number, rule)
+    let share = Slot {
+        number: number,
+        rule: rule,
+    };
+    take_share(s, controller, share)
 }
 
 // Questions 20, 21 and 10 to 19; then the share is a repeat, held, or applied.

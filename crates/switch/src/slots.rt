@@ -79,27 +79,29 @@ pub(crate) fn slots_ok(slots: [Slot; limits::CONTROLLERS], n: usize, last: u32) 
     true
 }
 
-pub(crate) fn does_hold(slot: Slot, number: u32, rule: Rule) -> bool
-    ensures { λ r. ⌜ r ≡ holds number rule slot ⌝ }
+// Whether a slot holds a share.
+pub(crate) fn does_hold(slot: Slot, share: Slot) -> bool
+    ensures { λ r. ⌜ r ≡ holds share slot ⌝ }
 {
-    if slot.number == number {
+    if slot.number == share.number {
         let held = slot.rule;
+        let rule = share.rule;
         flow::same_rule(held, rule)
     } else {
         false
     }
 }
 
-// The controllers whose slots hold this number and rule, controller c at bit c: from the last to the first.
-fn agreeing_set(slots: [Slot; limits::CONTROLLERS], number: u32, rule: Rule) -> u16
-    ensures { λ r. ⌜ r ≡ agreeing number rule slots ⌝ }
+// The controllers whose slots hold this share, controller c at bit c: from the last to the first.
+fn agreeing_set(slots: [Slot; limits::CONTROLLERS], share: Slot) -> u16
+    ensures { λ r. ⌜ r ≡ agreeing share slots ⌝ }
 {
     let mut bits: u16 = 0;
     let mut i = limits::CONTROLLERS;
     while 0 < i {
         i -= 1;
         let slot = slots[i];
-        if does_hold(slot, number, rule) {
+        if does_hold(slot, share) {
             bits = bits * 2 + 1;
         } else {
             bits = bits * 2;
@@ -109,10 +111,10 @@ fn agreeing_set(slots: [Slot; limits::CONTROLLERS], number: u32, rule: Rule) -> 
 }
 
 // Whether as many controllers agree as n controllers need.
-pub(crate) fn is_quorum(n: u8, slots: [Slot; limits::CONTROLLERS], number: u32, rule: Rule) -> bool
-    ensures { λ r. ⌜ r ≡ isQuorum n number rule slots ⌝ }
+pub(crate) fn is_quorum(n: u8, slots: [Slot; limits::CONTROLLERS], share: Slot) -> bool
+    ensures { λ r. ⌜ r ≡ isQuorum n share slots ⌝ }
 {
-    let bits = agreeing_set(slots, number, rule);
+    let bits = agreeing_set(slots, share);
     let needed = quorum(n);
     needed <= u16::count_ones(bits)
 }

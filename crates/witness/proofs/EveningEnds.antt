@@ -29,7 +29,7 @@ use Rattle.playbook.specs.Plans.{planOf, changesFor}
 use Rattle.playbook.specs.Reading.{readFrom}
 use Rattle.playbook.specs.Records.{recordAt}
 use Rattle.playbook.specs.declared.Change.{Change}
-use Rattle.switch.specs.Slots.{agreeing}
+use Rattle.switch.specs.Slots.{slotFor, agreeing}
 use Rattle.switch.specs.States as switch
 use Rattle.switch.specs.States.{switchOk}
 use Rattle.switch.specs.Shares.{stored, applied, takeShare}
@@ -157,7 +157,7 @@ module _ (t : Switch) (c k port : ℕ) where
   keys i = evening .key i (t .id)
 
   comes : firstNo fitting ≡ 0
-      → receivedBy t (switchKeys evening (t .id)) (share c (t .id) k port) ≡ takeShare t c k (byPort port)
+      → receivedBy t (switchKeys evening (t .id)) (share c (t .id) k port) ≡ takeShare t c (slotFor k (byPort port))
   unfolding receivedBy reply
   comes h =
       let yes = answered fitting refl h in
@@ -181,13 +181,13 @@ abbrev pub fresh2 : Switch
 fresh2 = switch.fresh 2 4
 
 abbrev pub misled2 : Switch
-misled2 = stored fresh2 3 1 (byPort 9)
+misled2 = stored fresh2 3 (slotFor 1 (byPort 9))
 
 abbrev pub waiting2 : Switch
-waiting2 = stored misled2 1 1 (byPort 3)
+waiting2 = stored misled2 1 (slotFor 1 (byPort 3))
 
 abbrev pub made2 : Switch
-made2 = applied (stored waiting2 2 1 (byPort 3)) 1 (byPort 3)
+made2 = let share = slotFor 1 (byPort 3) in applied (stored waiting2 2 share) share
 
 pub misled : receivedBy fresh2 (switchKeys evening 2) (share 3 2 1 9) ≡ switch.unchanged misled2 0
 unfolding switchOk tableOk everyTail pad takeShare reply among agreeing ones onesIn
@@ -213,6 +213,6 @@ late = comes made2 0 1 3 refl
 abbrev pub fresh5 : Switch
 fresh5 = switch.fresh 5 4
 
-pub ahead : receivedBy fresh5 (switchKeys evening 5) (share 3 5 2 2) ≡ switch.unchanged (stored fresh5 3 2 (byPort 2)) 0
+pub ahead : receivedBy fresh5 (switchKeys evening 5) (share 3 5 2 2) ≡ switch.unchanged (stored fresh5 3 (slotFor 2 (byPort 2))) 0
 unfolding switchOk tableOk everyTail pad takeShare reply among agreeing ones onesIn
 ahead = comes fresh5 3 2 2 refl

@@ -21,12 +21,12 @@ returns c = c .replied .ensures ∙ stopped _ _ _ (c .before .before .share-ques
 -- questions 15 to 19 answered yes
 passed : (c : tie.Else1)
     → let a = c .before .before .before .args in
-    firstNo (shareQuestions (a .t1) (slotOf (a .t1) (a .controller)) (a .number) (a .rule)) ≡ 0
+    firstNo (shareQuestions (a .t1) (slotOf (a .t1) (a .controller)) (a .share)) ≡ 0
 passed c = sym (c .before .share-question .ensures) ∙ omega arith
 
 past : (c : tie.Else1)
     → let a = c .before .before .before .args in
-    takeShare (a .t1) (a .controller) (a .number) (a .rule) ≡ taken (a .t1) (a .controller) (a .number) (a .rule)
+    takeShare (a .t1) (a .controller) (a .share) ≡ taken (a .t1) (a .controller) (a .share)
 unfolding takeShare
 past c = all-yes _ _ _ refl (passed c)
 
@@ -40,7 +40,7 @@ store-requires c κs =
     let s = c .before .before .before .before .before in
     let a = s .args in
     let w = within (a .t1) (s .pre .0) in
-    let p = passes (a .t1) (slotOf (a .t1) (a .controller)) (a .number) (a .rule) (passed (c .before .before)) in
+    let p = passes (a .t1) (slotOf (a .t1) (a .controller)) (a .share) (passed (c .before .before)) in
     (omega arith, w .table, p .formed, p .room, w .few, w .unused)
 
 returns-3 : tie.Need-returns-3

@@ -12,10 +12,10 @@ use Rattle.switch.proofs.slots.agreeing_set.Statement.{statement}
 use Rattle.switch.proofs.slots.agreeing_set.Tie as tie
 
 abbrev Inv-loop : tie.InvT-loop
-Inv-loop number rule slots bits₀ i₀ bits i = (i ≤ 16) × (bits ≡ agreeing number rule (drop i slots))
+Inv-loop share slots bits₀ i₀ bits i = (i ≤ 16) × (bits ≡ agreeing share (drop i slots))
 
 abbrev μ-loop : tie.MeasureT-loop
-μ-loop number rule slots bits₀ i₀ bits i = i
+μ-loop share slots bits₀ i₀ bits i = i
 
 long : (c : tie.Start Inv-loop μ-loop) → length (c .args .t1) ≡ 16
 long c = search needs
@@ -23,7 +23,7 @@ long c = search needs
 loop-holds : tie.Need-loop-holds Inv-loop μ-loop
 loop-holds c =
     let a = c .args in
-    (omega arith, sym (agreeing-end (a .number) (a .rule) (a .t1) 16 (omega (arith, long c))))
+    (omega arith, sym (agreeing-end (a .share) (a .t1) 16 (omega (arith, long c))))
 
 -- a bit more fits
 room : (c : tie.In-loop Inv-loop μ-loop) → c .before .loop .bits < 2 ^ 15
@@ -31,19 +31,19 @@ room c =
     let a = c .before .before .args in
     let full = long (c .before .before) in
     let rest = drop (c .before .loop .i) (a .t1) in
-    rw (c .before .loop .inv .1) (agreeing-small (a .number) (a .rule) rest 15 (simp length-drop (omega arith)))
+    rw (c .before .loop .inv .1) (agreeing-small (a .share) rest 15 (simp length-drop (omega arith)))
 
 -- a turn puts the bit of the slot before i below those of the slots from i on
 turn : (c : tie.In-loop Inv-loop μ-loop)
     → let a = c .before .before .args in
     let at = c .before .loop in
-    agreeing (a .number) (a .rule) (drop (at .i - 1) (a .t1))
-    ≡ at .bits * 2 + pick (holds (a .number) (a .rule) (getD (a .t1) (at .i - 1) emptySlot)) 1 0
+    agreeing (a .share) (drop (at .i - 1) (a .t1))
+    ≡ at .bits * 2 + pick (holds (a .share) (getD (a .t1) (at .i - 1) emptySlot)) 1 0
 turn c =
     let a = c .before .before .args in
     let full = long (c .before .before) in
     rw (c .before .loop .inv .1)
-    (agreeing-step (a .number) (a .rule) (a .t1) (c .before .loop .i) emptySlot (omega arith) (omega arith))
+    (agreeing-step (a .share) (a .t1) (c .before .loop .i) emptySlot (omega arith) (omega arith))
 
 mul-bits : tie.Need-mul-bits Inv-loop μ-loop
 mul-bits c = omega (arith, room (c .before .before .before))
