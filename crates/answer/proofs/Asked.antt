@@ -1,14 +1,14 @@
--- What a list of questions replies. Assumes nothing.
+-- What a list of questions replies.
 use mathlib.Core.Path.{_≡_, refl, sym, ap, _∙_}
-use mathlib.Core.Bool.{Bool, true, false, _&&_}
-use mathlib.Core.List.{List, [], _∷_}
+use mathlib.Core.Bool.{Bool, true, false, not, _&&_}
+use mathlib.Core.List.{List, [], _∷_, _++_}
 use Prim.Native.Nat.{ℕ, _≤_}
 use native.Mathlib.Omega.{arith}
 use lib.Dec.{leb, eqb, leb·zero}
 use lib.ListN.{drop}
-use borrow.Author.Tests.{leb-true}
+use borrow.Author.Tests.{leb-true, eq-eqb, not-true}
 use Rattle.answer.specs.Ask.{Question, pick, reply, firstNo}
-use Rattle.answer.proofs.Bools.{by-bool, and-join, and-parts}
+use Rattle.answer.proofs.Bools.{by-bool, tf, and-join, and-parts}
 
 module _ {A : Type 0} (refusal : ℕ → A) (next : A) where
   pub none-asked : reply [] refusal next ≡ next
@@ -41,10 +41,22 @@ reply-same [] refusal x y h = h refl
 reply-same ((k, true) ∷ qs) refusal x y h = reply-same qs refusal x y h
 reply-same ((k, false) ∷ qs) refusal x y h = refl
 
--- no question has a number below l
+-- one list of questions before another
+pub reply-append : {A : Type 0} (qs rs : List Question) (refusal : ℕ → A) (next : A)
+    → reply (qs ++ rs) refusal next ≡ reply qs refusal (reply rs refusal next)
+unfolding reply
+reply-append [] rs refusal next = refl
+reply-append ((k, true) ∷ qs) rs refusal next = reply-append qs rs refusal next
+reply-append ((k, false) ∷ qs) rs refusal next = refl
+
+-- no question has a number below l, and none has number j
 abbrev pub From : ℕ → List Question → Bool
 From l [] = true
 From l ((k, b) ∷ qs) = leb l k && From l qs
+
+abbrev pub Without : ℕ → List Question → Bool
+Without j [] = true
+Without j ((k, b) ∷ qs) = not (eqb k j) && Without j qs
 
 from-0 : (qs : List Question) → From 0 qs ≡ true
 from-0 [] = refl
@@ -60,6 +72,19 @@ by-reply l ((k, true) ∷ qs) refusal next n refuses passes =
     by-reply l qs refusal next (and-parts (leb l k) _ n .1) refuses passes
 by-reply l ((k, false) ∷ qs) refusal next n refuses passes =
     refuses (leb-true l k (and-parts (leb l k) _ n .0)) refl
+
+-- two replies by one list of questions: refused by the same one, whose number is neither 0 nor j, or both pass
+pub by-replies : {A B C : Type 0} (j : ℕ) (qs : List Question) (f : ℕ → A) (x : A) (g : ℕ → B) (y : B)
+    → From 1 qs ≡ true → Without j qs ≡ true
+    → ((q : ℕ) → (q ≡ 0 → ⊥) → (q ≡ j → ⊥) → reply qs f x ≡ f q → reply qs g y ≡ g q → C)
+    → (reply qs f x ≡ x → reply qs g y ≡ y → C) → C
+unfolding reply
+by-replies j [] f x g y n w refuses passes = passes refl refl
+by-replies j ((k, true) ∷ qs) f x g y n w refuses passes =
+    by-replies j qs f x g y (and-parts (leb 1 k) _ n .1) (and-parts (not (eqb k j)) _ w .1) refuses passes
+by-replies j ((k, false) ∷ qs) f x g y n w refuses passes =
+    refuses k (λ e. omega (arith, leb-true 1 k (and-parts (leb 1 k) _ n .0)))
+    (λ e. tf (eq-eqb k j e) (not-true _ (and-parts (not (eqb k j)) _ w .0))) refl refl
 
 -- so it is what follows where no number is given, since no question has number 0
 pub all-yes : {A : Type 0} (qs : List Question) (refusal : ℕ → A) (next : A) → From 1 qs ≡ true → firstNo qs ≡ 0

@@ -1,7 +1,7 @@
 -- A decision that agreement brought (document 01, "Controller end" and the questions of a decision). Assumes nothing.
 use Prim.Native.Nat.{ℕ, _+_}
 use mathlib.Core.List.{List, [], _∷_, _++_}
-use lib.ListN.{length, set}
+use lib.ListN.{length, getD, set}
 use lib.Dec.{ltb, leb}
 use Rattle.answer.specs.Ask.{Question, reply}
 use Rattle.playbook.specs.Books.{Trigger}
@@ -9,7 +9,6 @@ use Rattle.playbook.specs.Plans.{changesFor}
 use Rattle.playbook.specs.declared.Playbook.{Playbook}
 use Rattle.controller.specs.Changes.{meaning, heldOf, stillUndone, numberedFrom}
 use Rattle.controller.specs.States.{unchanged, controllerOk}
-use Rattle.controller.specs.Acknowledgements.{serialOf}
 use Rattle.controller.specs.declared.Controller.{Controller}
 use Rattle.controller.specs.declared.Reply.{Reply}
 use Rattle.controller.specs.declared.Undone.{Undone}
@@ -25,13 +24,20 @@ givenBy c t = given (c .playbook) (c .last) t
 abbrev pub heldAfter : Controller → Trigger → List Undone
 heldAfter c t = meaning (c .undone) ++ stillUndone (c .acknowledged) (givenBy c t)
 
+-- what is asked of a decision wherever one is taken, at a controller and along the agreed list: its switch known, its
+-- serial above the last decided there, and numbers enough for its plan's changes
+abbrev pub agreementQuestions : List ℕ → ℕ → List Undone → ℕ → ℕ → List Question
+agreementQuestions serials last changes s serial =
+    (12, ltb s 16)
+    ∷ (22, ltb (getD serials s 0) serial)
+    ∷ (23, leb (last + length changes) 4294967295)
+    ∷ []
+
 abbrev pub decisionQuestions : Controller → ℕ → ℕ → ℕ → List Question
 decisionQuestions c s serial cause =
     (20, controllerOk c)
-    ∷ (12, ltb s 16)
-    ∷ (22, ltb (serialOf c s) serial)
-    ∷ (23, leb (c .last + length (givenBy c (s, cause))) 4294967295)
-    ∷ (24, leb (length (heldAfter c (s, cause))) 64)
+    ∷ agreementQuestions (c .serials) (c .last) (givenBy c (s, cause)) s serial
+    ++ (24, leb (length (heldAfter c (s, cause))) 64)
     ∷ []
 
 -- the serial decided, the numbers given, the changes held

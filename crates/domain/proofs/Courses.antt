@@ -1,15 +1,16 @@
 -- The agreed changes along a list of decisions: the change at a place has the number that follows, and is what the
--- playbook says; numbers fit four bytes; and a longer list of decisions only adds changes behind. Assumes nothing.
+-- playbook says; numbers fit four bytes; and a longer list of decisions only adds changes behind.
 use mathlib.Core.Path.{_≡_, refl, sym, ap, _∙_}
-use mathlib.Core.Bool.{Bool, true, false}
+use mathlib.Core.Bool.{true}
 use mathlib.Core.List.{List, [], _∷_, _++_, append-nil, append-assoc}
 use Prim.Native.Nat.{ℕ, _+_, _-_, _^_, _≤_, _<_}
 use native.Mathlib.Omega.{arith}
 use lib.Dec.{ltb}
-use lib.ListN.{length, getD, set, length-append, List·getD-append}
+use lib.ListN.{length, getD, length-append, List·getD-append}
 use lib.Seq.{getD-append-add}
 use borrow.Author.Tests.{ltb-true, leb-true}
-use Rattle.answer.proofs.Asked.{none-asked, refused, asked, reply-keeps, answerTo, answered}
+use Rattle.answer.specs.Ask.{firstNo}
+use Rattle.answer.proofs.Asked.{reply-keeps, answered}
 use Rattle.answer.proofs.Bools.{by-le, and-parts}
 use Rattle.lists.specs.Arrays.{every}
 use Rattle.lists.specs.Kinds.{among}
@@ -27,11 +28,51 @@ use Rattle.controller.specs.Decisions.{given}
 use Rattle.controller.specs.declared.Undone.{Undone}
 use Rattle.controller.proofs.Numbering.{given-at, given-length}
 use Rattle.domain.specs.Settings.{Decision}
-use Rattle.domain.specs.Agreement.{Course, beginning, next, courseQuestions, advance, along, agreedChanges}
+use Rattle.domain.specs.Agreement.{Course, beginning, next, courseQuestions, onward, advance, along}
+use Rattle.domain.specs.Agreement.{agreedChanges}
 
 -- what a prefix and a port of the code's types are
 abbrev pub RuleInRange : Rule → Type 0
 RuleInRange r = (r .prefix < 256 ^ 4) × (portOf (r .action) < 256 ^ 2)
+
+-- a longer list of decisions
+pub along-append : (a : Course) (ds es : List Decision) → along a (ds ++ es) ≡ along (along a ds) es
+along-append a [] es = refl
+along-append a (d ∷ ds) es = along-append (advance a d) ds es
+
+-- what a decision that passes keeps, and one that does not leaves, a list of decisions keeps
+along-keeps : (P : Course → Type 0) → ((a : Course) (d : Decision) → firstNo (courseQuestions a d) ≡ 0 → P a → P (onward a d))
+    → (a : Course) (ds : List Decision) → P a → P (along a ds)
+along-keeps P keep a [] h = h
+along-keeps P keep a (d ∷ ds) h =
+    along-keeps P keep (advance a d) ds (reply-keeps P (courseQuestions a d) _ _ (λ k. h) (λ y. keep a d y h))
+
+-- no decision changes the playbook
+pub along-book : (a : Course) (ds : List Decision) → along a ds .playbook ≡ a .playbook
+along-book a ds = along-keeps (λ b. b .playbook ≡ a .playbook) (λ b d y h. h) a ds refl
+
+along-adds : (a : Course) (ds : List Decision) → (more : List Undone) × (along a ds .changes ≡ a .changes ++ more)
+along-adds a ds =
+    along-keeps (λ b. (more : List Undone) × (b .changes ≡ a .changes ++ more))
+    (λ b d y h. (
+      h .0 ++ next b d,
+      ap (λ (l : List Undone). l ++ next b d) (h .1) ∙ append-assoc (a .changes) (h .0) (next b d),
+    ))
+    a ds ([], sym (append-nil (a .changes)))
+
+pub agreed-adds : (p : Playbook) (ds es : List Decision)
+    → (more : List Undone) × (agreedChanges p (ds ++ es) ≡ agreedChanges p ds ++ more)
+unfolding agreedChanges
+agreed-adds p ds es =
+    let rest = along-adds (along (beginning p) ds) es in
+    (rest .0, ap (λ (a : Course). a .changes) (along-append (beginning p) ds es) ∙ rest .1)
+
+-- numbers fit four bytes
+pub agreed-few : (p : Playbook) (ds : List Decision) → length (agreedChanges p ds) ≤ 4294967295
+unfolding agreedChanges
+agreed-few p ds =
+    along-keeps (λ a. length (a .changes) ≤ 4294967295)
+    (λ a d y h. rw length-append (leb-true _ _ (answered (courseQuestions a d) refl y 23))) (beginning p) ds (omega arith)
 
 module _ (p : Playbook) where
   -- a change with a number: on a known switch, its rule well formed and in range, its key one of the playbook's there
@@ -45,69 +86,6 @@ module _ (p : Playbook) where
   -- changes whose numbers are those from 1 on
   abbrev pub Numbered : List Undone → Type 0
   Numbered us = (i : ℕ) → i < length us → Fine (i + 1) (getD us i emptyUndone)
-
-  -- a decision that passes 12, 22 and 23, and one refused by each
-  module _ (a : Course) (d : Decision) where
-    abbrev pub onward : Course
-    onward = record { serials = set (a .serials) (d .switch) (d .serial); changes = a .changes ++ next p a d }
-
-    abbrev pub asks : ℕ → Bool
-    asks q = answerTo q (courseQuestions p a d)
-
-    pub advanced : asks 12 ≡ true → asks 22 ≡ true → asks 23 ≡ true → advance p a d ≡ onward
-    advanced known new few =
-        asked _ _ 12 _ _ known ∙ asked _ _ 22 _ _ new ∙ asked _ _ 23 _ _ few ∙ none-asked _ _
-
-    pub stays-12 : asks 12 ≡ false → advance p a d ≡ a
-    stays-12 unknown = refused _ _ 12 _ _ unknown
-
-    pub stays-22 : asks 12 ≡ true → asks 22 ≡ false → advance p a d ≡ a
-    stays-22 known old = asked _ _ 12 _ _ known ∙ refused _ _ 22 _ _ old
-
-    pub stays-23 : asks 12 ≡ true → asks 22 ≡ true → asks 23 ≡ false → advance p a d ≡ a
-    stays-23 known new many = asked _ _ 12 _ _ known ∙ asked _ _ 22 _ _ new ∙ refused _ _ 23 _ _ many
-
-  -- a longer list of decisions
-  pub along-append : (a : Course) (ds es : List Decision) → along p a (ds ++ es) ≡ along p (along p a ds) es
-  along-append a [] es = refl
-  along-append a (d ∷ ds) es = along-append (advance p a d) ds es
-
-  pub advance-adds : (a : Course) (d : Decision)
-      → (more : List Undone) × (advance p a d .changes ≡ a .changes ++ more)
-  advance-adds a d =
-      reply-keeps (λ (b : Course). (more : List Undone) × (b .changes ≡ a .changes ++ more)) (courseQuestions p a d) _ _
-      (λ k. ([], sym (append-nil (a .changes)))) (λ y. (next p a d, refl))
-
-  pub along-adds : (a : Course) (ds : List Decision)
-      → (more : List Undone) × (along p a ds .changes ≡ a .changes ++ more)
-  along-adds a [] = ([], sym (append-nil (a .changes)))
-  along-adds a (d ∷ ds) =
-      let one = advance-adds a d in
-      let rest = along-adds (advance p a d) ds in
-      (one .0 ++ rest .0, rest .1 ∙ ap (λ (l : List Undone). l ++ rest .0) (one .1) ∙ append-assoc (a .changes) _ _)
-
-  pub agreed-adds : (ds es : List Decision)
-      → (more : List Undone) × (agreedChanges p (ds ++ es) ≡ agreedChanges p ds ++ more)
-  unfolding agreedChanges
-  agreed-adds ds es =
-      let rest = along-adds (along p beginning ds) es in
-      (rest .0, ap (λ (a : Course). a .changes) (along-append beginning ds es) ∙ rest .1)
-
-  -- numbers fit four bytes
-  advance-few : (a : Course) (d : Decision) → length (a .changes) ≤ 4294967295
-      → length (advance p a d .changes) ≤ 4294967295
-  advance-few a d h =
-      reply-keeps (λ (b : Course). length (b .changes) ≤ 4294967295) (courseQuestions p a d) _ _ (λ k. h)
-      (λ y. rw length-append (leb-true _ _ (answered (courseQuestions p a d) refl y 23)))
-
-  along-few : (a : Course) (ds : List Decision) → length (a .changes) ≤ 4294967295
-      → length (along p a ds .changes) ≤ 4294967295
-  along-few a [] h = h
-  along-few a (d ∷ ds) h = along-few (advance p a d) ds (advance-few a d h)
-
-  pub agreed-few : (ds : List Decision) → length (agreedChanges p ds) ≤ 4294967295
-  unfolding agreedChanges
-  agreed-few ds = along-few beginning ds (omega arith)
 
   module _ (stored : storedOk p ≡ true) (ranged : InRange p) where
     -- the changes of a plan are in range
@@ -150,15 +128,9 @@ module _ (p : Playbook) where
         rw is (planned-fine t (n + 1) (i + 1) j few))
         (λ h. rw (List·getD-append us (given p n t) emptyUndone i h) (fine i h))
 
-    advance-fine : (a : Course) (d : Decision) → Numbered (a .changes) → Numbered (advance p a d .changes)
-    advance-fine a d fine =
-        reply-keeps (λ (b : Course). Numbered (b .changes)) (courseQuestions p a d) _ _ (λ k. fine)
-        (λ y. given-fine (a .changes) (d .switch, d .cause) fine)
-
-    along-fine : (a : Course) (ds : List Decision) → Numbered (a .changes) → Numbered (along p a ds .changes)
-    along-fine a [] fine = fine
-    along-fine a (d ∷ ds) fine = along-fine (advance p a d) ds (advance-fine a d fine)
-
     pub agreed-fine : (ds : List Decision) → Numbered (agreedChanges p ds)
     unfolding agreedChanges
-    agreed-fine ds = along-fine beginning ds (λ i l. absurd (omega arith))
+    agreed-fine ds =
+        along-keeps (λ a. (a .playbook ≡ p) × Numbered (a .changes))
+        (λ a d y h. (h .0, rw (h .0) (given-fine (a .changes) (d .switch, d .cause) (h .1)))) (beginning p) ds
+        (refl, λ i l. absurd (omega arith)) .1

@@ -6,11 +6,12 @@ use mathlib.Core.Bool.{true}
 use mathlib.Core.List.{List, [], _∷_, _++_, append-nil}
 use Prim.Native.Nat.{ℕ, _+_, _≤_, _<_}
 use native.Mathlib.Omega.{arith}
-use lib.Dec.{ltb, leb, eqb}
+use lib.Dec.{leb, eqb}
 use lib.ListN.{length, set, length-append, length-set}
 use borrow.Author.Tests.{leb-true, lt-ltb, le-leb, eq-eqb, ne-eqb}
-use Rattle.answer.specs.Ask.{reply}
-use Rattle.answer.proofs.Asked.{asked, none-asked}
+use Rattle.answer.specs.Ask.{Question, reply}
+use Rattle.answer.proofs.Asked as ask
+use Rattle.answer.proofs.Asked.{asked, none-asked, reply-append, by-replies}
 use Rattle.answer.proofs.Bools.{by-bool}
 use Rattle.lists.specs.Counts.{passing}
 use Rattle.playbook.proofs.Kept.{read-stored}
@@ -22,9 +23,8 @@ use Rattle.switch.proofs.Kept as switch-kept
 use Rattle.controller.specs.Changes.{meaning, stillUndone}
 use Rattle.controller.specs.States as controller
 use Rattle.controller.specs.States.{unchanged, controllerOk}
-use Rattle.controller.specs.Acknowledgements.{serialOf}
 use Rattle.controller.specs.Receiving.{receivedBy}
-use Rattle.controller.specs.Decisions.{givenBy, heldAfter, decided, decidedBy}
+use Rattle.controller.specs.Decisions.{givenBy, heldAfter, agreementQuestions, decided, decidedBy}
 use Rattle.controller.specs.Writing.{shareWritten}
 use Rattle.controller.specs.Calls as controller-calls
 use Rattle.controller.specs.declared.Controller.{Controller}
@@ -37,8 +37,8 @@ use Rattle.controller.proofs.Taken.{Received, refused, offered, repeated, ackno
 use Rattle.domain.specs.Settings.{Decision, Setting, Valid, playbook}
 use Rattle.domain.specs.Calls.{atController}
 use Rattle.domain.specs.Premises.{decisionIn, isBrought}
-use Rattle.domain.specs.Agreement.{Course, beginning, next, advance, along}
-use Rattle.domain.proofs.Courses.{onward, asks, advanced, stays-12, stays-22, stays-23, along-append}
+use Rattle.domain.specs.Agreement.{Course, beginning, next, courseQuestions, onward, advance, along}
+use Rattle.domain.proofs.Courses.{along-append}
 
 module _ (S : Setting) where
   -- switch s
@@ -76,17 +76,17 @@ module _ (S : Setting) where
 
   -- a controller that has come along the list as far as a
   pub record Follows (a : Course) (t : Controller) : Type 0 where
+    pub book : t .playbook ≡ a .playbook
     pub serials : t .serials ≡ a .serials
     pub last : t .last ≡ length (a .changes)
     pub undone : meaning (t .undone) ≡ stillUndone (t .acknowledged) (a .changes)
 
   abbrev pub courseOf : List Decision → Course
-  courseOf ds = along (playbook S) beginning ds
+  courseOf ds = along (beginning (playbook S)) ds
 
   -- controller c, brought the decisions ds
   pub record ControllerFine (c : ℕ) (ds : List Decision) (t : Controller) : Type 0 where
     pub id : t .id ≡ c
-    pub book : t .playbook ≡ playbook S
     pub ok : controllerOk t ≡ true
     pub long : length (t .acknowledged) ≡ 16
     pub follows : Follows (courseOf ds) t
@@ -103,10 +103,9 @@ module _ (S : Setting) where
       let is = controller-set v c l in
       record {
         id = rw is;
-        book = rw is;
         ok = controller-kept.setup-kept c (S .n) (playbook S) (rw is) (read-stored (S .book));
         long = rw is;
-        follows = rw is (record { serials = refl; last = refl; undone = refl });
+        follows = rw is (record { book = refl; serials = refl; last = refl; undone = refl });
       }
 
   module _ (c : ℕ) (ds : List Decision) (t : Controller) (f : ControllerFine c ds t) where
@@ -117,10 +116,10 @@ module _ (S : Setting) where
     received-after keys bytes (repeated a old) = f
     received-after keys bytes (acknowledged {s} {number} a above) = record {
       id = f .id;
-      book = f .book;
       ok = controller-kept.acknowledge-kept t (f .ok) s number;
       long = length-set (t .acknowledged) s number ∙ f .long;
       follows = record {
+        book = f .follows .book;
         serials = f .follows .serials;
         last = f .follows .last;
         undone = acknowledge-leaves t (courseOf ds .changes) (f .follows .undone) s number (f .ok) (omega arith);
@@ -142,42 +141,45 @@ module _ (S : Setting) where
       abbrev course : Course
       course = courseOf ds
 
-      given-is : givenBy t (s, cause) ≡ next (playbook S) course decision
-      given-is = rw (f .book, f .follows .last)
+      given-is : givenBy t (s, cause) ≡ next course decision
+      given-is = rw (f .follows .book, f .follows .last)
+
+      -- a controller within its limits asks what the agreed list asks, and then for room
+      asked-so : decidedBy t s serial cause
+          ≡ reply (courseQuestions course decision) (unchanged t)
+          (reply ((24, leb (length (heldAfter t (s, cause))) 64) ∷ []) (unchanged t)
+          (unchanged (decided t s serial cause) 0))
+      unfolding decidedBy
+      asked-so =
+          asked (unchanged t) _ 20 _ _ (f .ok)
+          ∙ reply-append (agreementQuestions (t .serials) (t .last) (givenBy t (s, cause)) s serial) _ (unchanged t) _
+          ∙ ap (λ (qs : List Question). reply qs (unchanged t)
+          (reply ((24, leb (length (heldAfter t (s, cause))) 64) ∷ []) (unchanged t)
+          (unchanged (decided t s serial cause) 0)))
+          (λ i. agreementQuestions (f .follows .serials i) (f .follows .last i) (given-is i) s serial)
 
       pub by-decision : {C : Type 0}
           → (length (heldAfter t (s, cause)) ≤ 64 → decidedBy t s serial cause ≡ unchanged (decided t s serial cause) 0
-          → advance (playbook S) course decision ≡ onward (playbook S) course decision → C)
+          → advance course decision ≡ onward course decision → C)
           → (decidedBy t s serial cause ≡ unchanged t 24 → C)
           → ((q : ℕ) → (q ≡ 0 → ⊥) → (q ≡ 24 → ⊥) → decidedBy t s serial cause ≡ unchanged t q
-          → advance (playbook S) course decision ≡ course → C)
+          → advance course decision ≡ course → C)
           → C
-      unfolding decidedBy reply
       by-decision taken full declined =
-          let few = leb (t .last + length (givenBy t (s, cause))) 4294967295 in
-          let few-is : few ≡ asks (playbook S) course decision 23 = rw (given-is, f .follows .last) in
-          let new-is : ltb (serialOf t s) serial ≡ asks (playbook S) course decision 22 = rw (f .follows .serials) in
-          by-bool (ltb s 16)
-          (λ e. by-bool (ltb (serialOf t s) serial)
-          (λ e2. by-bool few
-          (λ e3. by-bool (leb (length (heldAfter t (s, cause))) 64)
-          (λ e4. taken (leb-true _ _ e4) (rw (f .ok, e, e2, e3, e4))
-          (advanced (playbook S) course decision e (sym new-is ∙ e2) (sym few-is ∙ e3)))
-          (λ e4. full (rw (f .ok, e, e2, e3, e4))))
-          (λ e3. declined 23 (λ z. omega arith) (λ z. omega arith) (rw (f .ok, e, e2, e3))
-          (stays-23 (playbook S) course decision e (sym new-is ∙ e2) (sym few-is ∙ e3))))
-          (λ e2. declined 22 (λ z. omega arith) (λ z. omega arith) (rw (f .ok, e, e2))
-          (stays-22 (playbook S) course decision e (sym new-is ∙ e2))))
-          (λ e. declined 12 (λ z. omega arith) (λ z. omega arith) (rw (f .ok, e))
-          (stays-12 (playbook S) course decision e))
+          let room = leb (length (heldAfter t (s, cause))) 64 in
+          by-replies 24 (courseQuestions course decision) (unchanged t) _ (λ k. course) (onward course decision) refl refl
+          (λ q n m is on. declined q n m (asked-so ∙ is) on)
+          (λ is on. by-bool room
+          (λ e. taken (leb-true _ _ e) (asked-so ∙ is ∙ asked (unchanged t) _ 24 _ [] e ∙ none-asked _ _) on)
+          (λ e. full (asked-so ∙ is ∙ ask.refused (unchanged t) _ 24 _ [] e)))
 
       -- what is then brought so far
       abbrev more : List Decision
       more = decisionIn isBrought c (decidedBy t s serial cause .answer)
           (atController c (controller-calls.manages (controller-calls.decides s serial cause)))
 
-      one-more : courseOf (ds ++ decision ∷ []) ≡ advance (playbook S) course decision
-      one-more = along-append (playbook S) beginning ds (decision ∷ [])
+      one-more : courseOf (ds ++ decision ∷ []) ≡ advance course decision
+      one-more = along-append (beginning (playbook S)) ds (decision ∷ [])
 
       brought-more : (q : ℕ) → (q ≡ 24 → ⊥) → decidedBy t s serial cause .answer ≡ q → more ≡ decision ∷ []
       brought-more q other e = rw (e, eq-eqb c c refl, ne-eqb q 24 other)
@@ -190,10 +192,10 @@ module _ (S : Setting) where
           (brought-more 0 (λ z. omega arith) (ap (λ (r : Reply). r .answer) is)) in
           rw (list, is) (record {
             id = f .id;
-            book = f .book;
             ok = controller-kept.decided-kept t (f .ok) s serial cause room;
             long = f .long;
             follows = rw (one-more ∙ on) (record {
+              book = f .follows .book;
               serials = ap (λ (l : List ℕ). set l s serial) (f .follows .serials);
               last = rw (length-append, given-is, f .follows .last);
               undone = decided-leaves t (course .changes) (f .follows .undone) s serial cause room
@@ -207,7 +209,6 @@ module _ (S : Setting) where
           let list = ap (λ (l : List Decision). ds ++ l) (brought-more q m (ap (λ (r : Reply). r .answer) is)) in
           rw (list, is) (record {
             id = f .id;
-            book = f .book;
             ok = f .ok;
             long = f .long;
             follows = rw (one-more ∙ on) (f .follows);
@@ -219,8 +220,8 @@ module _ (S : Setting) where
           ≡ courseOf (ts ++ decisionIn (λ answer. eqb answer 0) c (decidedBy t s serial cause .answer)
           (atController c (controller-calls.manages (controller-calls.decides s serial cause))))
       decision-took ts same =
-          let grown = along-append (playbook S) beginning ts (decision ∷ [])
-          ∙ ap (λ (a : Course). advance (playbook S) a decision) (sym same) in
+          let grown = along-append (beginning (playbook S)) ts (decision ∷ [])
+          ∙ ap (λ (a : Course). advance a decision) (sym same) in
           by-decision
           (λ room is on.
           rw (is, eq-eqb c c refl) (one-more ∙ sym grown))
