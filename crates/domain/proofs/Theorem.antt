@@ -1,6 +1,7 @@
--- Demand 3. All ends begin from setups answered 0; no call of a run within the premises is refused by question 20, and
--- no agreed change by question 19. The last lines are the claim: after every run what the switches did is what the
--- ideal controller does, and as many full rounds as changes remain make all.
+-- Demand 3, and what is proved beside it. All ends begin from setups answered 0; no call of a run within the premises is
+-- refused by question 20, and no agreed change by question 19; a stray alone changes nothing; a table follows from the
+-- last applied number. The last lines are the claim: after every run what the switches did is what the ideal controller
+-- does, and as many full rounds as changes remain make all.
 use mathlib.Core.Path.{_≡_, sym, ap, _∙_}
 use mathlib.Core.Bool.{true}
 use mathlib.Core.List.{List, [], _++_, append-nil}
@@ -58,25 +59,27 @@ module _ (S : Setting) (v : Valid S) where
     pub safe : Safe S after
     safe = reached-safe S v after (run-reached S v calls p)
 
+    -- a stray alone changes nothing: each share answered 1 has the number and rule of one that some controller which
+    -- keeps the rules wrote for that switch earlier in the run
+    pub vouched : Vouched S (after .log)
+    vouched = run-vouched S v calls p
+
+    -- a switch's table is a function of the agreed changes and its last applied number
+    pub table-by-last : (s : ℕ) → after .switches s .table ≡ tableAt (agreed S) s (after .switches s .last)
+    table-by-last = reached-table S v after (run-reached S v calls p)
+
+  -- in document 01's own words, full rounds make the changes of decisions that all these controllers have taken: at least
+  -- the decisions ds, or exactly these; what a controller took has the changes of what it was brought (taken-changes)
+  module _ (before rest : List Call) (p : Premises S (before ++ rest)) (ds : List Decision) where
+    pub taken-decisions-made : ((c : ℕ) → Keeps S c
+        → (more : List Decision) × (taken c (run (step S) (start S) before .log) ≡ ds ++ more))
+        → RoundsMake S ds before rest
+    taken-decisions-made = taken-made S v before rest p ds
+
+    pub same-decisions-made : ((c : ℕ) → Keeps S c → taken c (run (step S) (start S) before .log) ≡ ds)
+        → RoundsMake S ds before rest
+    same-decisions-made same = taken-decisions-made (λ c keeps. ([], same c keeps ∙ sym (append-nil ds)))
+
 -- the one claim
 pub demand3 : (S : Setting) → Valid S → Demand3 S
 demand3 S v = record { safe = safe S v; live = brought-made S v }
-
--- document 01's own wording: it is enough that the controllers that keep the rules have taken the same decisions
-pub same-decisions-made : (S : Setting) → Valid S → (before rest : List Call) → Premises S (before ++ rest)
-    → (ds : List Decision) → ((c : ℕ) → Keeps S c → taken c (run (step S) (start S) before .log) ≡ ds)
-    → RoundsMake S ds before rest
-same-decisions-made S v before rest p ds same =
-    taken-made S v before rest p ds (λ c keeps. ([], same c keeps ∙ sym (append-nil ds)))
-
--- a stray alone changes nothing: each share answered 1 has the number and rule of one that some controller which keeps
--- the rules wrote for that switch earlier in the run
-pub vouched : (S : Setting) → Valid S → (calls : List Call) → Premises S calls
-    → Vouched S (run (step S) (start S) calls .log)
-vouched = run-vouched
-
--- a switch's table is a function of the agreed changes and its last applied number
-pub table-by-last : (S : Setting) → Valid S → (calls : List Call) → Premises S calls → (s : ℕ) →
-    let switch = run (step S) (start S) calls .switches s in
-    switch .table ≡ tableAt (agreed S) s (switch .last)
-table-by-last S v calls p = reached-table S v (run (step S) (start S) calls) (run-reached S v calls p)

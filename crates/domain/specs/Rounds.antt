@@ -27,7 +27,8 @@ module _ (S : Setting) where
   Delivered key now receives =
       Sometime (step S) (λ v rest. isMessage (now v) ≡ true → List·Memᴰ (receives (encode key (now v))) rest)
 
-  -- first each switch's acknowledgement reaches a controller, then its share for each switch reaches that
+  -- a controller's part of a round: first each switch's acknowledgement reaches it, then its share for each switch
+  -- reaches that switch
   pub record Turn (c : ℕ) (r : Run) (calls : List Call) : Type 0 where
     pub first : List Call
     pub second : List Call
@@ -39,6 +40,7 @@ module _ (S : Setting) where
         → Delivered (S .key c s) (λ v. shareNow v c s)
         (λ bytes. atSwitch s (switch-calls.receives bytes)) (run (step S) r first) second
 
-  -- so at every controller that keeps the rules; where its first half ends may differ from controller to controller
+  -- a full round: every controller that keeps the rules has its part in the calls; where the first half ends may differ
+  -- from controller to controller
   abbrev pub Round : Run → List Call → Type 0
   Round r calls = (c : ℕ) → Keeps S c → Turn c r calls
