@@ -24,7 +24,7 @@ use Rattle.switch.specs.Writing.{acknowledgementFor, writeQuestions, written}
 use Rattle.switch.specs.declared.Reply.{Reply}
 use Rattle.switch.specs.declared.Switch.{Switch}
 use Rattle.switch.proofs.Sent.{acknowledgement-sent}
-use Rattle.controller.specs.Changes.{meaning}
+use Rattle.controller.specs.Changes.{undoneOf}
 use Rattle.controller.specs.Calls as controller-calls
 use Rattle.controller.specs.declared.Controller.{Controller}
 use Rattle.controller.specs.declared.Undone.{Undone}
@@ -118,14 +118,14 @@ module _ (S : Setting) (v : Valid S) where
     fine : Fine (playbook S) k u
     fine = change-fine S v ranged k is-agreed
 
-    readied : Readied (u .switch) (meaning (b .undone)) u
+    readied : Readied (u .switch) (undoneOf b) u
     readied = ready-readied S v ranged c ds rest begins b f k ready
 
     pub share-answered : shareNow S r c (u .switch) .0 ≡ 0
     share-answered =
         ready-sent b (controllerKeys S c) (u .switch) (replicate shareLength 0) 0 (f .ok)
         (joined-length (S .key c) (v .keys c) 16) (fine .known) (omega arith) u
-        (ready-found (meaning (b .undone)) (within b (f .ok) .rising) (u .switch) u readied)
+        (ready-found (undoneOf b) (within b (f .ok) .rising) (u .switch) u readied)
 
     pub share-delivered : (w : Run)
         → seen S w (atSwitch (u .switch) (switch-calls.receives (shareNow S r c (u .switch) .1)))
@@ -137,7 +137,7 @@ module _ (S : Setting) (v : Valid S) where
         let few = agreed-few (playbook S) (S .agreed) in
         let n = fine .numbered in
         let sent = share-sent b (controllerKeys S c) s (replicate shareLength 0) 0 share-answered u
-        (ready-found (meaning (b .undone)) (within b (f .ok) .rising) s u readied)
+        (ready-found (undoneOf b) (within b (f .ok) .rising) s u readied)
         (omega (arith, is-agreed .1), fine .in-range .0, fine .in-range .1) in
         let whole : take shareLength bytes ≡ bytes = take-all shareLength bytes (omega (arith, sent .long)) in
         let read : decode ends.Switch bytes ≡ Share c s k (u .rule) =

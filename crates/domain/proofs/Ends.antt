@@ -20,7 +20,7 @@ use Rattle.switch.specs.Calls as switch-calls
 use Rattle.switch.specs.declared.Switch.{Switch}
 use Rattle.switch.proofs.Kept as switch-kept
 use Rattle.switch.proofs.Once.{Quiet, setup-quiet, call-quiet}
-use Rattle.controller.specs.Changes.{meaning, stillUndone}
+use Rattle.controller.specs.Changes.{undoneOf, stillUndone}
 use Rattle.controller.specs.States as controller
 use Rattle.controller.specs.States.{unchanged, controllerOk}
 use Rattle.controller.specs.Acknowledgements.{serialOf}
@@ -77,9 +77,9 @@ module _ (S : Setting) where
 
   -- a controller that has come along the list as far as a
   pub record Follows (a : Course) (t : Controller) : Type 0 where
-    pub serials : t .serials ≡ a .serials
-    pub last : t .last ≡ length (a .changes)
-    pub undone : meaning (t .undone) ≡ stillUndone (t .acknowledged) (a .changes)
+    pub serials : t .progress .serials ≡ a .serials
+    pub last : t .progress .last ≡ length (a .changes)
+    pub undone : undoneOf t ≡ stillUndone (t .progress .acknowledged) (a .changes)
 
   abbrev pub courseOf : List Decision → Course
   courseOf ds = along (playbook S) beginning ds
@@ -89,7 +89,7 @@ module _ (S : Setting) where
     pub id : t .id ≡ c
     pub book : t .playbook ≡ playbook S
     pub ok : controllerOk t ≡ true
-    pub long : length (t .acknowledged) ≡ 16
+    pub long : length (t .progress .acknowledged) ≡ 16
     pub follows : Follows (courseOf ds) t
 
   pub controller-set : Valid S → (c : ℕ) → c < S .n
@@ -120,7 +120,7 @@ module _ (S : Setting) where
       id = f .id;
       book = f .book;
       ok = controller-kept.acknowledge-kept t (f .ok) s number;
-      long = length-set (t .acknowledged) s number ∙ f .long;
+      long = length-set (t .progress .acknowledged) s number ∙ f .long;
       follows = record {
         serials = f .follows .serials;
         last = f .follows .last;
@@ -155,7 +155,7 @@ module _ (S : Setting) where
           → C
       unfolding decidedBy reply
       by-decision taken full declined =
-          let few = leb (t .last + length (givenBy t (s, cause))) 4294967295 in
+          let few = leb (t .progress .last + length (givenBy t (s, cause))) 4294967295 in
           let few-is : few ≡ asks (playbook S) course decision 23 = rw (given-is, f .follows .last) in
           let new-is : ltb (serialOf t s) serial ≡ asks (playbook S) course decision 22 = rw (f .follows .serials) in
           by-bool (ltb s 16)
@@ -198,7 +198,7 @@ module _ (S : Setting) where
               serials = ap (λ (l : List ℕ). set l s serial) (f .follows .serials);
               last = rw (length-append, given-is, f .follows .last);
               undone = decided-leaves t (course .changes) (f .follows .undone) s serial cause room
-                  ∙ ap (λ (l : List Undone). stillUndone (t .acknowledged) (course .changes ++ l)) given-is;
+                  ∙ ap (λ (l : List Undone). stillUndone (t .progress .acknowledged) (course .changes ++ l)) given-is;
             });
           }))
           (λ is.

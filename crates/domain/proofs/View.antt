@@ -73,7 +73,7 @@ abbrev pub viewReply : Reply → protocol.Reply Rule Table
 viewReply r = record { answer = r .answer; state = viewSwitch (r .state) }
 
 abbrev pub viewController : Controller → protocol.Controller
-viewController c = record { last = c .last; acknowledged = λ s. acknowledgedOf c s }
+viewController c = record { last = c .progress .last; acknowledged = λ s. acknowledgedOf c s }
 
 -- what was written, before what was written earlier
 abbrev pub shareSaid : ℕ → ℕ → Message → List (protocol-worlds.Message Rule) → List (protocol-worlds.Message Rule)
@@ -174,7 +174,7 @@ module _ (S : Setting) where
   seen r (atController c (controller-calls.receives bytes)) =
       acknowledgementSeen S c bytes (decode ends.Controller bytes)
   seen r (atController c (controller-calls.decides s serial cause)) =
-      protocol-worlds.decides c (decidedBy (r .controllers c) s serial cause .state .last)
+      protocol-worlds.decides c (decidedBy (r .controllers c) s serial cause .state .progress .last)
   seen r (atController c (controller-calls.writesShare s frame at)) =
       pick (eqb (shareWritten (r .controllers c) (controllerKeys S c) s frame at .0 .answer) 0)
       (readySeen c (shareFor (r .controllers c) s)) protocol-worlds.other
