@@ -18,7 +18,7 @@ pub record Decides (c : Controller) (s serial cause : ℕ) : Type 0 where
   pub limits : controllerOk c ≡ true
   pub known : s < 16
   pub above : serialOf c s < serial
-  pub numbers : c .last + length (givenBy c (s, cause)) ≤ 4294967295
+  pub numbers : c .progress .last + length (givenBy c (s, cause)) ≤ 4294967295
   pub room : length (heldAfter c (s, cause)) ≤ 64
 
 -- the reply to a decision
@@ -72,7 +72,7 @@ module _ (c : Controller) (s serial cause : ℕ) where
 
   -- where nothing but the room is missing, the answer is 24
   pub decision-full : controllerOk c ≡ true → s < 16 → serialOf c s < serial
-      → c .last + length (givenBy c (s, cause)) ≤ 4294967295 → 64 < length (heldAfter c (s, cause))
+      → c .progress .last + length (givenBy c (s, cause)) ≤ 4294967295 → 64 < length (heldAfter c (s, cause))
       → decidedBy c s serial cause ≡ unchanged c 24
   unfolding decidedBy reply
   decision-full limits known above numbers full =

@@ -21,7 +21,7 @@ use Rattle.playbook.specs.Books.{hasTrigger}
 use Rattle.playbook.specs.Books as books
 use Rattle.playbook.specs.Plans.{changesFor}
 use Rattle.playbook.proofs.Listed.{no-changes}
-use Rattle.controller.specs.Changes.{emptyUndone, meaning, isUndone, stillUndone, numberedFrom}
+use Rattle.controller.specs.Changes.{emptyUndone, undoneOf, isUndone, stillUndone, numberedFrom}
 use Rattle.controller.specs.States.{unchanged, controllerOk}
 use Rattle.controller.specs.Acknowledgements.{acknowledgedOf, serialOf, acknowledge}
 use Rattle.controller.specs.Receiving.{receivedBy}
@@ -59,10 +59,10 @@ pub record Acknowledged (c : Controller) (keys bytes : List ℕ) (r : Reply) : T
   pub above : acknowledgedOf c switch < number
   pub offer : r .offer ≡ Nothing
   pub state : r .state ≡ acknowledge c switch number
-  pub new : switch < length (c .acknowledged) → acknowledgedOf (r .state) switch ≡ number
+  pub new : switch < length (c .progress .acknowledged) → acknowledgedOf (r .state) switch ≡ number
   pub others : (i : ℕ) → (i ≡ switch → ⊥) → acknowledgedOf (r .state) i ≡ acknowledgedOf c i
-  pub undone : switch < length (c .acknowledged)
-      → meaning (r .state .undone) ≡ passing (λ u. not (doneBy switch number u)) (meaning (c .undone))
+  pub undone : switch < length (c .progress .acknowledged)
+      → undoneOf (r .state) ≡ passing (λ u. not (doneBy switch number u)) (undoneOf c)
 
 -- answer 2: its number is at most the switch's
 pub record Repeated (c : Controller) (keys bytes : List ℕ) (r : Reply) : Type 0 where
@@ -86,21 +86,21 @@ undone-still numbers s number u long above =
 
 module _ (c : Controller) (h : controllerOk c ≡ true) where
   -- so just those are dropped
-  pub dropped : (s number : ℕ) → s < length (c .acknowledged)
-      → stillUndone (set (c .acknowledged) s number) (meaning (c .undone))
-      ≡ passing (λ u. not (doneBy s number u)) (meaning (c .undone))
+  pub dropped : (s number : ℕ) → s < length (c .progress .acknowledged)
+      → stillUndone (set (c .progress .acknowledged) s number) (undoneOf c)
+      ≡ passing (λ u. not (doneBy s number u)) (undoneOf c)
   dropped s number long =
-      let us = meaning (c .undone) in
+      let us = undoneOf c in
       passing-same _ _ us emptyUndone
-      (λ i n. undone-still (c .acknowledged) s number (getD us i emptyUndone) long
+      (λ i n. undone-still (c .progress .acknowledged) s number (getD us i emptyUndone) long
       (held-fits c (within c h) i emptyUndone n .above))
 
   -- the undone changes that an acknowledgement leaves, as a list
   pub acknowledge-undone : (s number : ℕ)
-      → meaning (acknowledge c s number .undone)
-      ≡ stillUndone (set (c .acknowledged) s number) (meaning (c .undone))
+      → undoneOf (acknowledge c s number)
+      ≡ stillUndone (set (c .progress .acknowledged) s number) (undoneOf c)
   acknowledge-undone s number =
-      held-meaning _ (still-few (set (c .acknowledged) s number) (c .undone) (within c h .count))
+      held-meaning _ (still-few (set (c .progress .acknowledged) s number) (c .progress .undone) (within c h .count))
 
 -- what each answer says: by the cases of a reception
 module _ {c : Controller} {keys bytes : List ℕ} where
@@ -113,8 +113,8 @@ module _ {c : Controller} {keys bytes : List ℕ} where
     above = above;
     offer = refl;
     state = refl;
-    new = getD-set-same (c .acknowledged) s number 0;
-    others = λ i. getD-set-other (c .acknowledged) s i number 0;
+    new = getD-set-same (c .progress .acknowledged) s number 0;
+    others = λ i. getD-set-other (c .progress .acknowledged) s i number 0;
     undone = λ long. acknowledge-undone c (a .limits) s number ∙ dropped c (a .limits) s number long;
   }
 
@@ -167,11 +167,11 @@ module _ (c : Controller) (keys bytes : List ℕ) where
   offered-again o = ap (λ (t : Controller). receivedBy t keys bytes) (o .state)
 
   pub acknowledged-again : (a : Acknowledged c keys bytes (receivedBy c keys bytes))
-      → a .switch < length (c .acknowledged)
+      → a .switch < length (c .progress .acknowledged)
       → receivedBy (receivedBy c keys bytes .state) keys bytes ≡ unchanged (receivedBy c keys bytes .state) 2
   acknowledged-again a long =
       let t = acknowledge c (a .switch) (a .number) in
-      let read = getD-set-same (c .acknowledged) (a .switch) (a .number) 0 long in
+      let read = getD-set-same (c .progress .acknowledged) (a .switch) (a .number) 0 long in
       rw (a .state) (acknowledgement-arrival t keys bytes {s = a .switch} {number = a .number} (record {
         limits = acknowledge-kept c (a .arrives .limits) (a .switch) (a .number);
         store = a .arrives .store;
@@ -184,13 +184,13 @@ module _ (c : Controller) (keys bytes : List ℕ) where
 -- those that are not done follow the undone ones
 pub record DecisionTaken (c : Controller) (s serial cause : ℕ) (t : Controller) : Type 0 where
   pub decides : Decides c s serial cause
-  pub new : s < length (c .serials) → serialOf t s ≡ serial
+  pub new : s < length (c .progress .serials) → serialOf t s ≡ serial
   pub others : (i : ℕ) → (i ≡ s → ⊥) → serialOf t i ≡ serialOf c i
-  pub acknowledged : t .acknowledged ≡ c .acknowledged
-  pub last : t .last ≡ c .last + length (changesFor (c .playbook) (s, cause))
-  pub undone : meaning (t .undone)
-      ≡ meaning (c .undone)
-      ++ stillUndone (c .acknowledged) (numberedFrom (c .last + 1) (c .last + 1) (changesFor (c .playbook) (s, cause)))
+  pub acknowledged : t .progress .acknowledged ≡ c .progress .acknowledged
+  pub last : t .progress .last ≡ c .progress .last + length (changesFor (c .playbook) (s, cause))
+  pub undone : undoneOf t
+      ≡ undoneOf c
+      ++ stillUndone (c .progress .acknowledged) (numberedFrom (c .progress .last + 1) (c .progress .last + 1) (changesFor (c .playbook) (s, cause)))
   pub id : t .id ≡ c .id
   pub n : t .n ≡ c .n
   pub playbook : t .playbook ≡ c .playbook
@@ -199,10 +199,10 @@ module _ (c : Controller) (s serial cause : ℕ) where
   decided-by : Decides c s serial cause → DecisionTaken c s serial cause (decided c s serial cause)
   decided-by d = record {
     decides = d;
-    new = getD-set-same (c .serials) s serial 0;
-    others = λ i. getD-set-other (c .serials) s i serial 0;
+    new = getD-set-same (c .progress .serials) s serial 0;
+    others = λ i. getD-set-other (c .progress .serials) s i serial 0;
     acknowledged = refl;
-    last = ap (λ (k : ℕ). c .last + k) (given-length (c .last + 1) (c .last + 1) (changesFor (c .playbook) (s, cause)));
+    last = ap (λ (k : ℕ). c .progress .last + k) (given-length (c .progress .last + 1) (c .progress .last + 1) (changesFor (c .playbook) (s, cause)));
     undone = held-meaning (heldAfter c (s, cause)) (d .room);
     id = refl;
     n = refl;
@@ -219,29 +219,29 @@ module _ (c : Controller) (s serial cause : ℕ) where
   -- without a plan no number is given, and the undone changes stay
   pub without-plan : hasTrigger (s, cause) (books.meaning (c .playbook) .plans) ≡ false
       → decidedBy c s serial cause .answer ≡ 0
-      → (decidedBy c s serial cause .state .last ≡ c .last)
-      × (meaning (decidedBy c s serial cause .state .undone) ≡ meaning (c .undone))
+      → (decidedBy c s serial cause .state .progress .last ≡ c .progress .last)
+      × (undoneOf (decidedBy c s serial cause .state) ≡ undoneOf c)
   unfolding numberedFrom
   without-plan none h =
       let d = decided-0 h in
       let empty = no-changes (c .playbook) (s, cause) none in (
         d .last ∙ rw empty (omega arith),
-        d .undone ∙ rw (empty, passing-none) (append-nil (meaning (c .undone))),
+        d .undone ∙ rw (empty, passing-none) (append-nil (undoneOf c)),
       )
 
 -- where the undone changes are those of a list that are not done, they are so of it after an acknowledgement, and of it
 -- with the numbers given after a decision
-module _ (c : Controller) (all : List Undone) (held : meaning (c .undone) ≡ stillUndone (c .acknowledged) all) where
+module _ (c : Controller) (all : List Undone) (held : undoneOf c ≡ stillUndone (c .progress .acknowledged) all) where
   pub acknowledge-leaves : (s number : ℕ) → controllerOk c ≡ true → acknowledgedOf c s ≤ number
-      → meaning (acknowledge c s number .undone) ≡ stillUndone (acknowledge c s number .acknowledged) all
+      → undoneOf (acknowledge c s number) ≡ stillUndone (acknowledge c s number .progress .acknowledged) all
   acknowledge-leaves s number h grows =
-      let next = set (c .acknowledged) s number in
+      let next = set (c .progress .acknowledged) s number in
       acknowledge-undone c h s number
       ∙ ap (stillUndone next) held
-      ∙ still-again (c .acknowledged) next all (λ i. set-grows (c .acknowledged) s number i grows)
+      ∙ still-again (c .progress .acknowledged) next all (λ i. set-grows (c .progress .acknowledged) s number i grows)
 
   pub decided-leaves : (s serial cause : ℕ) → length (heldAfter c (s, cause)) ≤ 64
-      → meaning (decided c s serial cause .undone) ≡ stillUndone (c .acknowledged) (all ++ givenBy c (s, cause))
+      → undoneOf (decided c s serial cause) ≡ stillUndone (c .progress .acknowledged) (all ++ givenBy c (s, cause))
   decided-leaves s serial cause room =
       held-meaning (heldAfter c (s, cause)) room
-      ∙ rw (held, passing-append (isUndone (c .acknowledged)) all (givenBy c (s, cause)))
+      ∙ rw (held, passing-append (isUndone (c .progress .acknowledged)) all (givenBy c (s, cause)))

@@ -13,7 +13,7 @@ use Rattle.answer.proofs.Bools.{by-le, by-or, tf, and-parts}
 use Rattle.lists.proofs.Passing.{passing-few}
 use Rattle.playbook.specs.Plans.{changesFor}
 use Rattle.playbook.proofs.Listed.{plan-few}
-use Rattle.controller.specs.Changes.{meaning, isUndone, stillUndone}
+use Rattle.controller.specs.Changes.{undoneOf, isUndone, stillUndone}
 use Rattle.controller.specs.States.{controllerOk}
 use Rattle.controller.specs.Decisions.{givenBy, heldAfter, decisionQuestions, decidedBy}
 use Rattle.controller.specs.declared.Controller.{Controller}
@@ -36,14 +36,14 @@ not-first j ((k, false) ∷ qs) positive all e =
     (λ n. tf n (rw (eq-eqb k j e))) (λ n. tf n (λ i. false))
 
 module _ (c : Controller) (ok : controllerOk c ≡ true) (s serial cause : ℕ) where
-  few-more : length (heldAfter c (s, cause)) ≤ length (meaning (c .undone)) + 32
+  few-more : length (heldAfter c (s, cause)) ≤ length (undoneOf c) + 32
   few-more =
       let given = givenBy c (s, cause) in
       omega (
         arith,
-        length-append (meaning (c .undone)) (stillUndone (c .acknowledged) given),
-        passing-few (isUndone (c .acknowledged)) given,
-        given-length (c .last + 1) (c .last + 1) (changesFor (c .playbook) (s, cause)),
+        length-append (undoneOf c) (stillUndone (c .progress .acknowledged) given),
+        passing-few (isUndone (c .progress .acknowledged)) given,
+        given-length (c .progress .last + 1) (c .progress .last + 1) (changesFor (c .playbook) (s, cause)),
         plan-few (c .playbook) (s, cause) (within c ok .stored),
       )
 
@@ -52,7 +52,7 @@ module _ (c : Controller) (ok : controllerOk c ≡ true) (s serial cause : ℕ) 
       not-first 24 (decisionQuestions c s serial cause) (omega arith) (rw room)
       (sym (decision-answer c s serial cause) ∙ e)
 
-  pub full-means : decidedBy c s serial cause .answer ≡ 24 → 32 < length (meaning (c .undone))
+  pub full-means : decidedBy c s serial cause .answer ≡ 24 → 32 < length (undoneOf c)
   full-means e =
-      by-le (length (meaning (c .undone))) 32
+      by-le (length (undoneOf c)) 32
       (λ few. absurd (not-full (le-leb (length (heldAfter c (s, cause))) 64 (omega (arith, few-more))) e)) (λ l. l)

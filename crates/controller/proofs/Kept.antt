@@ -19,8 +19,8 @@ use Rattle.playbook.specs.Plans.{changesFor}
 use Rattle.playbook.specs.Storing.{storedOk}
 use Rattle.playbook.specs.declared.Playbook.{Playbook}
 use Rattle.playbook.proofs.Listed.{plan-changes}
-use Rattle.controller.specs.Changes.{meaning, heldOf, numbersOf, isUndone, stillUndone}
-use Rattle.controller.specs.States.{unchanged, inRange, fresh, setupOf, undoneOk, controllerOk}
+use Rattle.controller.specs.Changes.{heldOf, undoneOf, numbersOf, isUndone, stillUndone}
+use Rattle.controller.specs.States.{unchanged, progressed, inRange, fresh, setupOf, undoneOk, controllerOk}
 use Rattle.controller.specs.Acknowledgements.{acknowledgedOf, serialOf, acknowledge}
 use Rattle.controller.specs.Receiving.{receivedBy}
 use Rattle.controller.specs.Decisions.{givenBy, heldAfter, decided, decidedBy}
@@ -64,15 +64,12 @@ zero-refused = refl
 -- an undone list of at most 64 in its places, in a state that is else within its limits
 module _ (c : Controller) (w : Within c) (acknowledged serials : List ℕ) (last : ℕ) (us : List Undone) where
   held-kept : length us ≤ 64 → every (undoneOk acknowledged last) us ≡ true → risingFrom 0 (numbersOf us) ≡ true
-      → controllerOk (record {
-        id = c .id;
-        n = c .n;
-        playbook = c .playbook;
+      → controllerOk (progressed c (record {
         acknowledged = acknowledged;
         serials = serials;
         last = last;
         undone = heldOf us;
-      }) ≡ true
+      })) ≡ true
   held-kept few each rising =
       let read = held-meaning us few in
       obeys _ (record {
@@ -91,41 +88,41 @@ module _ (c : Controller) (h : controllerOk c ≡ true) where
   pub acknowledge-kept : (s number : ℕ) → controllerOk (acknowledge c s number) ≡ true
   acknowledge-kept s number =
       let w = within c h in
-      let next = set (c .acknowledged) s number in
-      let us = meaning (c .undone) in
-      held-kept c w next (c .serials) (c .last) (stillUndone next us)
-      (still-few next (c .undone) (w .count))
-      (fits-still (c .acknowledged) (c .last) next us (w .each))
+      let next = set (c .progress .acknowledged) s number in
+      let us = undoneOf c in
+      held-kept c w next (c .progress .serials) (c .progress .last) (stillUndone next us)
+      (still-few next (c .progress .undone) (w .count))
+      (fits-still (c .progress .acknowledged) (c .progress .last) next us (w .each))
       (rising-passing (isUndone next) _ 0 us (w .rising))
 
   -- the numbers that a decision gives fit, and rise from the last one on
   given-each : (t : Trigger)
-      → every (undoneOk (c .acknowledged) (c .last + length (givenBy c t)))
-      (stillUndone (c .acknowledged) (givenBy c t)) ≡ true
+      → every (undoneOk (c .progress .acknowledged) (c .progress .last + length (givenBy c t)))
+      (stillUndone (c .progress .acknowledged) (givenBy c t)) ≡ true
   given-each t =
       let cs = changesFor (c .playbook) t in
-      let many = given-length (c .last + 1) (c .last + 1) cs in
-      let each : every (undoneOk [] (c .last + length (givenBy c t))) (givenBy c t) ≡ true =
+      let many = given-length (c .progress .last + 1) (c .progress .last + 1) cs in
+      let each : every (undoneOk [] (c .progress .last + length (givenBy c t))) (givenBy c t) ≡ true =
       given-fits _ _ _ cs (omega arith) (omega arith) (omega arith)
       (plan-changes (c .playbook) t (within c h .stored)) in
-      fits-still [] _ (c .acknowledged) (givenBy c t) each
+      fits-still [] _ (c .progress .acknowledged) (givenBy c t) each
 
   -- so with the undone ones before them the numbers rise
   pub held-rises : (t : Trigger) → risingFrom 0 (numbersOf (heldAfter c t)) ≡ true
   held-rises t =
       let w = within c h in
-      rising-on (c .acknowledged) (c .last) (meaning (c .undone)) _ (w .each) (w .rising)
-      (rising-passing _ _ (c .last) (givenBy c t) (given-rising (c .last + 1) (c .last) _))
+      rising-on (c .progress .acknowledged) (c .progress .last) (undoneOf c) _ (w .each) (w .rising)
+      (rising-passing _ _ (c .progress .last) (givenBy c t) (given-rising (c .progress .last + 1) (c .progress .last) _))
 
   pub decided-kept : (s serial cause : ℕ) → length (heldAfter c (s, cause)) ≤ 64
       → controllerOk (decided c s serial cause) ≡ true
   decided-kept s serial cause few =
       let w = within c h in
-      let us = meaning (c .undone) in
-      let top = c .last + length (givenBy c (s, cause)) in
-      held-kept c w (c .acknowledged) (set (c .serials) s serial) top (heldAfter c (s, cause)) few
+      let us = undoneOf c in
+      let top = c .progress .last + length (givenBy c (s, cause)) in
+      held-kept c w (c .progress .acknowledged) (set (c .progress .serials) s serial) top (heldAfter c (s, cause)) few
       (every-append _ us _ ∙ and-join _ _
-      (fits-higher (c .acknowledged) (c .last) top us (omega arith) (w .each)) (given-each (s, cause)))
+      (fits-higher (c .progress .acknowledged) (c .progress .last) top us (omega arith) (w .each)) (given-each (s, cause)))
       (held-rises (s, cause))
 
 -- a state t that came of the state c: its setup is the same, and none of its numbers is lower
@@ -135,7 +132,7 @@ pub record Grown (c t : Controller) : Type 0 where
   pub playbook : t .playbook ≡ c .playbook
   pub acknowledged : (s : ℕ) → acknowledgedOf c s ≤ acknowledgedOf t s
   pub serials : (s : ℕ) → serialOf c s ≤ serialOf t s
-  pub last : c .last ≤ t .last
+  pub last : c .progress .last ≤ t .progress .last
 
 pub grown-same : (c : Controller) → Grown c c
 grown-same c = record {
@@ -169,7 +166,7 @@ module _ (keys : List ℕ) (c : Controller) where
     id = refl;
     n = refl;
     playbook = refl;
-    acknowledged = λ i. set-grows (c .acknowledged) s number i (omega arith);
+    acknowledged = λ i. set-grows (c .progress .acknowledged) s number i (omega arith);
     serials = λ i. omega arith;
     last = omega arith;
   }
@@ -178,7 +175,7 @@ module _ (keys : List ℕ) (c : Controller) where
     n = refl;
     playbook = refl;
     acknowledged = λ i. omega arith;
-    serials = λ i. set-grows (c .serials) s serial i (omega (arith, d .above));
+    serials = λ i. set-grows (c .progress .serials) s serial i (omega (arith, d .above));
     last = omega arith;
   }
 

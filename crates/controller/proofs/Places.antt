@@ -16,7 +16,7 @@ use Rattle.lists.proofs.Stores.{take-next}
 use Rattle.flow.specs.Rules.{emptyRule}
 use Rattle.flow.proofs.Actions.{rule-sound}
 use Rattle.playbook.specs.declared.Change.{Change}
-use Rattle.controller.specs.Changes.{emptyUndone, undoneEmpty, meaning, heldOf, isUndone, stillUndone}
+use Rattle.controller.specs.Changes.{emptyUndone, undoneEmpty, heldOf, undoneOf, isUndone, stillUndone}
 use Rattle.controller.specs.Changes.{numbered, numberedFrom, withChange}
 use Rattle.controller.specs.declared.Controller.{Controller}
 use Rattle.controller.specs.declared.Held.{Held}
@@ -89,8 +89,8 @@ only-empty u h =
     }
 
 -- so the places of a controller within its limits are those of its undone changes
-pub held-sound : (c : Controller) → Within c → length (c .undone .changes) ≡ 64
-    → c .undone ≡ heldOf (meaning (c .undone))
+pub held-sound : (c : Controller) → Within c → length (c .progress .undone .changes) ≡ 64
+    → c .progress .undone ≡ heldOf (undoneOf c)
 held-sound c w long =
-    let padded = as-padded undoneEmpty emptyUndone only-empty _ (c .undone .changes) long (w .count) (w .unused) in
+    let padded = as-padded undoneEmpty emptyUndone only-empty _ (c .progress .undone .changes) long (w .count) (w .unused) in
     λ i. record { changes = padded .0 i; count = padded .1 i }

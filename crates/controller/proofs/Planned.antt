@@ -18,8 +18,8 @@ use Rattle.playbook.specs.declared.Plan.{Plan}
 use Rattle.playbook.specs.declared.Playbook.{Playbook}
 use Rattle.playbook.proofs.Kept.{stored-parts}
 use Rattle.playbook.proofs.Listed.{stored-plan, plan-length}
-use Rattle.controller.specs.Changes.{meaning, heldOf, stillUndone, numberedFrom}
-use Rattle.controller.specs.States.{unchanged}
+use Rattle.controller.specs.Changes.{heldOf, undoneOf, stillUndone, numberedFrom}
+use Rattle.controller.specs.States.{unchanged, progressed}
 use Rattle.controller.specs.Decisions.{givenBy, heldAfter, decisionQuestions, decided}
 use Rattle.controller.specs.declared.Controller.{Controller}
 use Rattle.controller.specs.declared.Held.{Held}
@@ -55,27 +55,27 @@ module _ (c : Controller) (s serial cause : ℕ) where
   module _ {q : Plan} (l : Listed (c .playbook) (s, cause) q) where
     -- a number for each change of the plan, done or not
     numbers : length (givenBy c (s, cause)) ≡ q .count
-    numbers = given-length (c .last + 1) (c .last + 1) (changesFor (c .playbook) (s, cause)) ∙ l .counted
+    numbers = given-length (c .progress .last + 1) (c .progress .last + 1) (changesFor (c .playbook) (s, cause)) ∙ l .counted
 
-    numbers-left : c .last + q .count ≤ 4294967295 → c .last + length (givenBy c (s, cause)) ≤ 4294967295
+    numbers-left : c .progress .last + q .count ≤ 4294967295 → c .progress .last + length (givenBy c (s, cause)) ≤ 4294967295
     numbers-left h = omega (arith, numbers)
 
-    pub plan-exhausts : 4294967295 < c .last + q .count → PlanAsked (unchanged c 23)
+    pub plan-exhausts : 4294967295 < c .progress .last + q .count → PlanAsked (unchanged c 23)
     plan-exhausts h =
-        let more : 4294967295 < c .last + length (givenBy c (s, cause)) = omega (arith, numbers) in
+        let more : 4294967295 < c .progress .last + length (givenBy c (s, cause)) = omega (arith, numbers) in
         sym (refused _ _ 23 _ _ (lt-leb _ _ more))
 
     -- and what its changes in the store leave to hold is what the decision does
-    module _ {h : Held} (left : c .last + q .count ≤ 4294967295)
+    module _ {h : Held} (left : c .progress .last + q .count ≤ 4294967295)
         (e : h
-        ≡ heldOf (meaning (c .undone)
-        ++ stillUndone (c .acknowledged)
-        (numberedFrom (c .last + 1) (c .last + 1) (take (q .count) (drop (q .first) (c .playbook .changes)))))) where
+        ≡ heldOf (undoneOf c
+        ++ stillUndone (c .progress .acknowledged)
+        (numberedFrom (c .progress .last + 1) (c .progress .last + 1) (take (q .count) (drop (q .first) (c .playbook .changes)))))) where
       held : h ≡ heldOf (heldAfter c (s, cause))
       held =
           e
-          ∙ ap (λ (cs : List Change). heldOf (meaning (c .undone)
-          ++ stillUndone (c .acknowledged) (numberedFrom (c .last + 1) (c .last + 1) cs))) (sym (l .changes))
+          ∙ ap (λ (cs : List Change). heldOf (undoneOf c
+          ++ stillUndone (c .progress .acknowledged) (numberedFrom (c .progress .last + 1) (c .progress .last + 1) cs))) (sym (l .changes))
 
       pub plan-full : 64 < h .count → PlanAsked (unchanged c 24)
       plan-full n =
@@ -83,15 +83,12 @@ module _ (c : Controller) (s serial cause : ℕ) where
           sym (asked _ _ 23 _ _ (le-leb _ _ (numbers-left left)) ∙ refused _ _ 24 _ _ (lt-leb _ _ more))
 
       pub plan-taken : h .count ≤ 64
-          → PlanAsked (unchanged (record {
-            id = c .id;
-            n = c .n;
-            playbook = c .playbook;
-            acknowledged = c .acknowledged;
-            serials = set (c .serials) s serial;
-            last = c .last + q .count;
+          → PlanAsked (unchanged (progressed c (record {
+            acknowledged = c .progress .acknowledged;
+            serials = set (c .progress .serials) s serial;
+            last = c .progress .last + q .count;
             undone = h;
-          }) 0)
+          })) 0)
       plan-taken n =
           let room : length (heldAfter c (s, cause)) ≤ 64 = rw held at n in
           rw (held, ← numbers)

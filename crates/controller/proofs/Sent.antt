@@ -17,7 +17,7 @@ use Rattle.message.specs.Layout.{shareLength}
 use Rattle.message.specs.Writing.{encode, lengthOf, isMessage, placed, InRange}
 use Rattle.message.specs.declared.Message.the-variants.{Share}
 use Rattle.message.proofs.Written.{Sent, placed-message, sent}
-use Rattle.controller.specs.Changes.{meaning}
+use Rattle.controller.specs.Changes.{undoneOf}
 use Rattle.controller.specs.States.{controllerOk}
 use Rattle.controller.specs.Readiness.{isReady, readyFor}
 use Rattle.controller.specs.Writing.{shareOf, shareFor, writeQuestions, shareWritten}
@@ -80,10 +80,10 @@ module _ (c : Controller) (keys : List ℕ) (s : ℕ) (frame : List ℕ) (at : �
   nothing-ready h =
       share-missing (c .id) s (readyFor c s) (last-no _ _ (ltb s 16) _ (isMessage (shareFor c s)) (sym answer-is ∙ h))
 
-  pub all-waiting : shareWritten c keys s frame at .0 .answer ≡ 26 → (i : ℕ) → i < length (meaning (c .undone))
-      → undoneAt (meaning (c .undone)) i .switch ≡ s
-      → isReady (meaning (c .undone)) (undoneAt (meaning (c .undone)) i) ≡ false
-  all-waiting h = none-ready s (meaning (c .undone)) (nothing-ready h)
+  pub all-waiting : shareWritten c keys s frame at .0 .answer ≡ 26 → (i : ℕ) → i < length (undoneOf c)
+      → undoneAt (undoneOf c) i .switch ≡ s
+      → isReady (undoneOf c) (undoneAt (undoneOf c) i) ≡ false
+  all-waiting h = none-ready s (undoneOf c) (nothing-ready h)
 
   -- and past the questions before it the answer is 26 where none is, and 0 where one is
   module _ (limits : controllerOk c ≡ true) (store : length keys ≡ keyLength * 16) (known : s < 16)

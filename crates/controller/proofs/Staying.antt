@@ -17,7 +17,7 @@ use Rattle.lists.proofs.Passing.{passing-few, every-passing, rising-passing}
 use Rattle.lists.proofs.Rising.{rising-append}
 use Rattle.lists.proofs.Tails.{every-fails}
 use Rattle.message.specs.declared.Message.the-variants.{Acknowledgement}
-use Rattle.controller.specs.Changes.{emptyUndone, meaning, numbersOf, isUndone}
+use Rattle.controller.specs.Changes.{emptyUndone, undoneOf, numbersOf, isUndone}
 use Rattle.controller.specs.Acknowledgements.{acknowledgedOf, acknowledge}
 use Rattle.controller.specs.Readiness.{isReady, readyOf, readyFor}
 use Rattle.controller.specs.Decisions.{heldAfter, decided}
@@ -108,11 +108,11 @@ module _ (us ws : List Undone) (rising : risingFrom 0 (numbersOf (us ++ ws)) ≡
 -- a decision alters what is ready only where the switch had no undone change
 pub decision-keeps : (c : Controller) (t serial cause : ℕ) → risingFrom 0 (numbersOf (heldAfter c (t, cause))) ≡ true
     → length (heldAfter c (t, cause)) ≤ 64
-    → (s : ℕ) (v : Undone) → Stands (meaning (c .undone)) v → v .switch ≡ s
+    → (s : ℕ) (v : Undone) → Stands (undoneOf c) v → v .switch ≡ s
     → readyFor (decided c t serial cause) s ≡ readyFor c s
 decision-keeps c t serial cause rising few s v a e =
     ap (readyOf s) (pad-take 64 emptyUndone (heldAfter c (t, cause)) few)
-    ∙ found-kept (meaning (c .undone)) _ rising s v a e
+    ∙ found-kept (undoneOf c) _ rising s v a e
 
 -- changes that pass a test
 module _ (f : Undone → Bool) where
@@ -146,20 +146,20 @@ module _ (f : Undone → Bool) where
 
 -- an acknowledgement takes no readiness from a change that it leaves undone, so none on another switch
 module _ (c : Controller) (w : Within c) (t number s : ℕ) (u : Undone) (h : readyFor c s ≡ Change u) where
-  pub acknowledgement-keeps : isUndone (set (c .acknowledged) t number) u ≡ true
+  pub acknowledgement-keeps : isUndone (set (c .progress .acknowledged) t number) u ≡ true
       → readyFor (acknowledge c t number) s ≡ Change u
   acknowledgement-keeps e =
-      let us = meaning (c .undone) in
-      let still = isUndone (set (c .acknowledged) t number) in
-      let used = length-take (c .undone .count) (c .undone .changes) in
+      let us = undoneOf c in
+      let still = isUndone (set (c .progress .acknowledged) t number) in
+      let used = length-take (c .progress .undone .count) (c .progress .undone .changes) in
       ap (readyOf s) (pad-take 64 emptyUndone (passing still us) (omega (arith, passing-few still us, w .count)))
       ∙ found-passing still us (w .rising) s u h e
 
   pub other-acknowledged : (s ≡ t → ⊥) → readyFor (acknowledge c t number) s ≡ Change u
   other-acknowledged other =
-      let on = ready-sound s (meaning (c .undone)) u h .on in
+      let on = ready-sound s (undoneOf c) u h .on in
       let above = rw on at (ready-fits c w s u h .above) in
-      acknowledgement-keeps (rw (on, getD-set-other (c .acknowledged) t s number 0 other) (lt-ltb _ _ above))
+      acknowledgement-keeps (rw (on, getD-set-other (c .progress .acknowledged) t s number 0 other) (lt-ltb _ _ above))
 
 -- what a call can do to the ready change of switch s: nothing; or it brings an acknowledgement that is taken; or a
 -- decision that is taken, and s had no undone change
@@ -169,14 +169,14 @@ pub data Alters (keys : List ℕ) (c : Controller) (s : ℕ) : Call → Controll
       → Arrives c keys bytes from (Acknowledgement from (c .id) number) → acknowledgedOf c from < number
       → Alters keys c s (receives bytes) (acknowledge c from number)
   by-decision : {on serial cause : ℕ} → Decides c on serial cause
-      → every (elsewhere s) (meaning (c .undone)) ≡ true
+      → every (elsewhere s) (undoneOf c) ≡ true
       → Alters keys c s (manages (decides on serial cause)) (decided c on serial cause)
 
 module _ (keys : List ℕ) (c : Controller) (s : ℕ) where
   decision-alters : (on serial cause : ℕ) → Decides c on serial cause
       → Alters keys c s (manages (decides on serial cause)) (decided c on serial cause)
   decision-alters on serial cause d =
-      let us = meaning (c .undone) in
+      let us = undoneOf c in
       by-bool (every (elsewhere s) us)
       (λ none. by-decision d none)
       (λ some.

@@ -14,7 +14,7 @@ use Rattle.answer.proofs.Bools.{or-left, or-right}
 use Rattle.lists.specs.Rising.{risingFrom}
 use Rattle.lists.proofs.Rising.{rising-places}
 use Rattle.lists.proofs.Tails.{every-at, every-all}
-use Rattle.controller.specs.Changes.{emptyUndone, meaning, numbersOf}
+use Rattle.controller.specs.Changes.{emptyUndone, undoneOf, numbersOf}
 use Rattle.controller.specs.Readiness.{sameFlow, sameSwitch, waitsFor, isReady, firstReady, readyOf, readyFor}
 use Rattle.controller.specs.declared.Controller.{Controller}
 use Rattle.controller.specs.declared.Ready.{Ready}
@@ -181,7 +181,7 @@ module _ (us : List Undone) (rising : risingFrom 0 (numbersOf us) ≡ true) wher
 
 -- a ready change of a controller within its limits is within its own
 pub ready-fits : (c : Controller) → Within c → (s : ℕ) (u : Undone) → readyFor c s ≡ Change u
-    → Fits (c .acknowledged) (c .last) u
+    → Fits (c .progress .acknowledged) (c .progress .last) u
 ready-fits c w s u h =
-    let a = ready-sound s (meaning (c .undone)) u h .stands in
+    let a = ready-sound s (undoneOf c) u h .stands in
     rw (a .there) at (held-fits c w (a .place) emptyUndone (a .inside))

@@ -13,7 +13,7 @@ use Rattle.lists.specs.Rising.{risingFrom}
 use Rattle.lists.proofs.Tails.{every-at}
 use Rattle.flow.specs.Rules.{wellFormed}
 use Rattle.playbook.specs.Storing.{storedOk}
-use Rattle.controller.specs.Changes.{undoneEmpty, meaning, numbersOf}
+use Rattle.controller.specs.Changes.{undoneEmpty, undoneOf, numbersOf}
 use Rattle.controller.specs.States.{undoneOk, controllerOk}
 use Rattle.controller.specs.declared.Controller.{Controller}
 use Rattle.controller.specs.declared.Undone.{Undone}
@@ -22,10 +22,10 @@ pub record Within (c : Controller) : Type 0 where
   pub some : 1 ≤ c .n
   pub few : c .n ≤ 16
   pub known : c .id < c .n
-  pub count : c .undone .count ≤ 64
-  pub each : every (undoneOk (c .acknowledged) (c .last)) (meaning (c .undone)) ≡ true
-  pub rising : risingFrom 0 (numbersOf (meaning (c .undone))) ≡ true
-  pub unused : every undoneEmpty (drop (c .undone .count) (c .undone .changes)) ≡ true
+  pub count : c .progress .undone .count ≤ 64
+  pub each : every (undoneOk (c .progress .acknowledged) (c .progress .last)) (undoneOf c) ≡ true
+  pub rising : risingFrom 0 (numbersOf (undoneOf c)) ≡ true
+  pub unused : every undoneEmpty (drop (c .progress .undone .count) (c .progress .undone .changes)) ≡ true
   pub stored : storedOk (c .playbook) ≡ true
 
 pub within : (c : Controller) → controllerOk c ≡ true → Within c
@@ -37,7 +37,7 @@ within c h =
       some = leb-true _ _ (part (leb 1 (c .n)) (λ e. rw e));
       few = leb-true _ _ (part (leb (c .n) 16) (λ e. rw (e, and-false)));
       known = ltb-true _ _ (part (ltb (c .id) (c .n)) (λ e. rw (e, and-false)));
-      count = leb-true _ _ (part (leb (c .undone .count) 64) (λ e. rw (e, and-false)));
+      count = leb-true _ _ (part (leb (c .progress .undone .count) 64) (λ e. rw (e, and-false)));
       each = part _ (λ e. rw (e, and-false));
       rising = part _ (λ e. rw (e, and-false));
       unused = part _ (λ e. rw (e, and-false));
@@ -93,6 +93,6 @@ module _ (acknowledged : List ℕ) (last : ℕ) (u : Undone) where
       )
 
 -- each undone change of a controller within its limits
-pub held-fits : (c : Controller) → Within c → (i : ℕ) (z : Undone) → i < length (meaning (c .undone))
-    → Fits (c .acknowledged) (c .last) (getD (meaning (c .undone)) i z)
-held-fits c w i z h = fits _ _ _ (every-at _ (meaning (c .undone)) i z (w .each) h)
+pub held-fits : (c : Controller) → Within c → (i : ℕ) (z : Undone) → i < length (undoneOf c)
+    → Fits (c .progress .acknowledged) (c .progress .last) (getD (undoneOf c) i z)
+held-fits c w i z h = fits _ _ _ (every-at _ (undoneOf c) i z (w .each) h)

@@ -6,29 +6,30 @@ use lib.ListN.{getD, set}
 use lib.Dec.{ltb}
 use Rattle.answer.specs.Ask.{pick, reply}
 use Rattle.controller.specs.Changes.{meaning, heldOf, stillUndone}
-use Rattle.controller.specs.States.{unchanged}
+use Rattle.controller.specs.States.{unchanged, progressed}
 use Rattle.controller.specs.declared.Controller.{Controller}
 use Rattle.controller.specs.declared.Offer.the-variants.{Event}
+use Rattle.controller.specs.declared.Progress.{Progress}
 use Rattle.controller.specs.declared.Reply.{Reply}
 
 -- the highest number that a switch acknowledged, and the last decided serial of it
 abbrev pub acknowledgedOf : Controller → ℕ → ℕ
-acknowledgedOf c s = getD (c .acknowledged) s 0
+acknowledgedOf c s = getD (c .progress .acknowledged) s 0
 
 abbrev pub serialOf : Controller → ℕ → ℕ
-serialOf c s = getD (c .serials) s 0
+serialOf c s = getD (c .progress .serials) s 0
 
 -- the number acknowledged; changes that are done now are dropped
-abbrev pub acknowledge : Controller → ℕ → ℕ → Controller
-acknowledge c s number = record {
-  id = c .id;
-  n = c .n;
-  playbook = c .playbook;
-  acknowledged = set (c .acknowledged) s number;
-  serials = c .serials;
-  last = c .last;
-  undone = heldOf (stillUndone (set (c .acknowledged) s number) (meaning (c .undone)));
+abbrev pub acknowledging : Progress → ℕ → ℕ → Progress
+acknowledging p s number = record {
+  acknowledged = set (p .acknowledged) s number;
+  serials = p .serials;
+  last = p .last;
+  undone = heldOf (stillUndone (set (p .acknowledged) s number) (meaning (p .undone)));
 }
+
+abbrev pub acknowledge : Controller → ℕ → ℕ → Controller
+acknowledge c s number = progressed c (acknowledging (c .progress) s number)
 
 -- an acknowledgement that is not above the acknowledged number is a repeat
 abbrev pub takeAcknowledgement : Controller → ℕ → ℕ → Reply

@@ -8,6 +8,7 @@ use Rattle.lists.specs.Arrays.{pad}
 use Rattle.lists.specs.Counts.{passing}
 use Rattle.flow.specs.Rules.{emptyRule, ruleEmpty}
 use Rattle.playbook.specs.declared.Change.{Change}
+use Rattle.controller.specs.declared.Controller.{Controller}
 use Rattle.controller.specs.declared.Held.{Held}
 use Rattle.controller.specs.declared.Undone.{Undone}
 
@@ -25,6 +26,10 @@ meaning h = take (h .count) (h .changes)
 
 abbrev pub heldOf : List Undone → Held
 heldOf us = record { changes = pad 64 emptyUndone us; count = length us }
+
+-- the undone changes of a controller
+abbrev pub undoneOf : Controller → List Undone
+undoneOf c = meaning (c .progress .undone)
 
 abbrev pub numbersOf : List Undone → List ℕ
 numbersOf us = map (λ (u : Undone). u .number) us

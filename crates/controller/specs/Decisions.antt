@@ -7,8 +7,8 @@ use Rattle.answer.specs.Ask.{Question, reply}
 use Rattle.playbook.specs.Books.{Trigger}
 use Rattle.playbook.specs.Plans.{changesFor}
 use Rattle.playbook.specs.declared.Playbook.{Playbook}
-use Rattle.controller.specs.Changes.{meaning, heldOf, stillUndone, numberedFrom}
-use Rattle.controller.specs.States.{unchanged, controllerOk}
+use Rattle.controller.specs.Changes.{heldOf, undoneOf, stillUndone, numberedFrom}
+use Rattle.controller.specs.States.{unchanged, progressed, controllerOk}
 use Rattle.controller.specs.declared.Controller.{Controller}
 use Rattle.controller.specs.declared.Reply.{Reply}
 use Rattle.controller.specs.declared.Undone.{Undone}
@@ -18,11 +18,11 @@ abbrev pub given : Playbook → ℕ → Trigger → List Undone
 given p last t = numberedFrom (last + 1) (last + 1) (changesFor p t)
 
 abbrev pub givenBy : Controller → Trigger → List Undone
-givenBy c t = given (c .playbook) (c .last) t
+givenBy c t = given (c .playbook) (c .progress .last) t
 
 -- the undone changes afterwards: those of the plan are held unless already done
 abbrev pub heldAfter : Controller → Trigger → List Undone
-heldAfter c t = meaning (c .undone) ++ stillUndone (c .acknowledged) (givenBy c t)
+heldAfter c t = undoneOf c ++ stillUndone (c .progress .acknowledged) (givenBy c t)
 
 -- what is asked of a decision wherever one is taken, at a controller and along the agreed list: its switch known, its
 -- serial above the last decided there, and numbers enough for its plan's changes
@@ -36,21 +36,18 @@ agreementQuestions serials last changes s serial =
 abbrev pub decisionQuestions : Controller → ℕ → ℕ → ℕ → List Question
 decisionQuestions c s serial cause =
     (20, controllerOk c)
-    ∷ agreementQuestions (c .serials) (c .last) (givenBy c (s, cause)) s serial
+    ∷ agreementQuestions (c .progress .serials) (c .progress .last) (givenBy c (s, cause)) s serial
     ++ (24, leb (length (heldAfter c (s, cause))) 64)
     ∷ []
 
 -- the serial decided, the numbers given, the changes held
 abbrev pub decided : Controller → ℕ → ℕ → ℕ → Controller
-decided c s serial cause = record {
-  id = c .id;
-  n = c .n;
-  playbook = c .playbook;
-  acknowledged = c .acknowledged;
-  serials = set (c .serials) s serial;
-  last = c .last + length (givenBy c (s, cause));
+decided c s serial cause = progressed c (record {
+  acknowledged = c .progress .acknowledged;
+  serials = set (c .progress .serials) s serial;
+  last = c .progress .last + length (givenBy c (s, cause));
   undone = heldOf (heldAfter c (s, cause));
-}
+})
 
 unfoldable pub decidedBy : Controller → ℕ → ℕ → ℕ → Reply
 decidedBy c s serial cause =

@@ -5,7 +5,7 @@ use mathlib.Core.List.{List, [], _∷_}
 use lib.Dec.{ltb, eqb}
 use Rattle.answer.specs.Ask.{pick}
 use Rattle.lists.specs.Arrays.{every}
-use Rattle.controller.specs.Changes.{meaning}
+use Rattle.controller.specs.Changes.{undoneOf}
 use Rattle.controller.specs.declared.Controller.{Controller}
 use Rattle.controller.specs.declared.Ready.{Ready}
 use Rattle.controller.specs.declared.Ready.the-variants.{Nothing, Change}
@@ -37,4 +37,4 @@ readyOf s us = firstReady s us us
 
 -- the ready change of a switch
 abbrev pub readyFor : Controller → ℕ → Ready
-readyFor c s = readyOf s (meaning (c .undone))
+readyFor c s = readyOf s (undoneOf c)

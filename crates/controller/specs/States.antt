@@ -13,9 +13,10 @@ use Rattle.message.specs.Keys.{keyLength}
 use Rattle.playbook.specs.Books.{noPlans, storeOf}
 use Rattle.playbook.specs.Storing.{storedOk}
 use Rattle.playbook.specs.declared.Playbook.{Playbook}
-use Rattle.controller.specs.Changes.{undoneEmpty, meaning, heldOf, numbersOf, isUndone}
+use Rattle.controller.specs.Changes.{undoneEmpty, heldOf, undoneOf, numbersOf, isUndone}
 use Rattle.controller.specs.declared.Controller.{Controller}
 use Rattle.controller.specs.declared.Offer.the-variants.{Nothing}
+use Rattle.controller.specs.declared.Progress.{Progress}
 use Rattle.controller.specs.declared.Reply.{Reply}
 use Rattle.controller.specs.declared.Undone.{Undone}
 
@@ -23,21 +24,21 @@ use Rattle.controller.specs.declared.Undone.{Undone}
 abbrev pub unchanged : Controller → ℕ → Reply
 unchanged c k = record { answer = k; offer = Nothing; state = c }
 
+-- a state with these moving parts, the rest as it is
+abbrev pub progressed : Controller → Progress → Controller
+progressed c p = record { id = c .id; n = c .n; playbook = c .playbook; progress = p }
+
 -- n and the id in range
 abbrev pub inRange : ℕ → ℕ → Bool
 inRange id n = leb 1 n && leb n 16 && ltb id n
 
+-- nothing acknowledged, decided, given or undone
+abbrev pub noProgress : Progress
+noProgress = record { acknowledged = replicate 16 0; serials = replicate 16 0; last = 0; undone = heldOf [] }
+
 -- a controller to which nothing has happened; all zero for id 0, no controllers and the empty playbook
 abbrev pub fresh : ℕ → ℕ → Playbook → Controller
-fresh id n p = record {
-  id = id;
-  n = n;
-  playbook = p;
-  acknowledged = replicate 16 0;
-  serials = replicate 16 0;
-  last = 0;
-  undone = heldOf [];
-}
+fresh id n p = record { id = id; n = n; playbook = p; progress = noProgress }
 
 abbrev pub setupOf : ℕ → ℕ → Playbook → Reply
 setupOf id n p =
@@ -59,10 +60,10 @@ undoneOk acknowledged last u =
 unfoldable pub controllerOk : Controller → Bool
 controllerOk c =
     inRange (c .id) (c .n)
-    && leb (c .undone .count) 64
-    && every (undoneOk (c .acknowledged) (c .last)) (meaning (c .undone))
-    && risingFrom 0 (numbersOf (meaning (c .undone)))
-    && every undoneEmpty (drop (c .undone .count) (c .undone .changes))
+    && leb (c .progress .undone .count) 64
+    && every (undoneOk (c .progress .acknowledged) (c .progress .last)) (undoneOf c)
+    && risingFrom 0 (numbersOf (undoneOf c))
+    && every undoneEmpty (drop (c .progress .undone .count) (c .progress .undone .changes))
     && storedOk (c .playbook)
 
 -- questions 20 and 21 of a state and the length of its key store, before every call that uses tags

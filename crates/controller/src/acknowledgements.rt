@@ -1,11 +1,12 @@
 // What an acknowledgement and an event move.
 ghost use mathlib.Core.Path.{_≡_};
 ghost use Prim.Native.Nat.{_≤_, _<_};
-ghost use lib.ListN.{set};
 ghost use Rattle.controller.specs.Changes.{meaning, heldOf, stillUndone};
+ghost use Rattle.controller.specs.Acknowledgements.{acknowledging};
 use crate::Held;
 use crate::Moved;
 use crate::Offer;
+use crate::Progress;
 use crate::changes::is_undone;
 use crate::changes::none_held;
 use crate::limits;
@@ -30,54 +31,33 @@ fn still_undone(h: Held, acknowledged: [u32; limits::PLACES]) -> Held
     out
 }
 
-// The parts of a state with a number acknowledged by a switch.
-pub(crate) fn acknowledged_by(m: Moved, s: usize, number: u32) -> Moved
-    requires { ⌜ (s < 16) × (m .undone .count ≤ 64) ⌝ }
-    ensures { λ r. ⌜ r
-        ≡ record {
-          answer = m .answer;
-          offer = m .offer;
-          acknowledged = set (m .acknowledged) s number;
-          serials = m .serials;
-          last = m .last;
-          undone = heldOf (stillUndone (set (m .acknowledged) s number) (meaning (m .undone)));
-        } ⌝ }
+// The moving parts with a number acknowledged by a switch.
+pub(crate) fn acknowledged_by(p: Progress, s: usize, number: u32) -> Progress
+    requires { ⌜ (s < 16) × (p .undone .count ≤ 64) ⌝ }
+    ensures { λ r. ⌜ r ≡ acknowledging p s number ⌝ }
 {
-    let undone = m.undone;
-    let mut acknowledged = m.acknowledged;
+    let undone = p.undone;
+    let mut acknowledged = p.acknowledged;
     acknowledged[s] = number;
     let rest = still_undone(undone, acknowledged);
-    let mut next = m;
+    let mut next = p;
     next.acknowledged = acknowledged;
     next.undone = rest;
     next
 }
 
-// The parts of a state, with an event offered.
-pub(crate) fn offering(m: Moved, switch: u8, serial: u32, cause: u8) -> Moved
+// The moving parts as they are, and an event offered.
+pub(crate) fn offering(p: Progress, switch: u8, serial: u32, cause: u8) -> Moved
     ensures { λ r. ⌜ r
-        ≡ record {
-          answer = m .answer;
-          offer = Offer.Event switch serial cause;
-          acknowledged = m .acknowledged;
-          serials = m .serials;
-          last = m .last;
-          undone = m .undone;
-        } ⌝ }
+        ≡ record { answer = 0; offer = Offer.Event switch serial cause; progress = p } ⌝ }
 {
-    let acknowledged = m.acknowledged;
-    let serials = m.serials;
-    let undone = m.undone;
     Moved {
-        answer: m.answer,
+        answer: answer::DONE,
         offer: Offer::Event {
             switch: switch,
             serial: serial,
             cause: cause,
         },
-        acknowledged: acknowledged,
-        serials: serials,
-        last: m.last,
-        undone: undone,
+        progress: p,
     }
 }

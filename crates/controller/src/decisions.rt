@@ -12,13 +12,12 @@ ghost use Rattle.controller.specs.Moving.{movedBy};
 use crate::Controller;
 use crate::Held;
 use crate::Moved;
-use crate::Offer;
 use crate::Reply;
 use crate::Undone;
 use crate::changes::is_undone;
 use crate::limits;
+use crate::states::answering;
 use crate::states::controller_ok;
-use crate::states::stays;
 use playbook::Change;
 
 // A plan's change with a number, of the decision with a first number.
@@ -77,29 +76,25 @@ fn take_decision(c: Controller, switch: u8, serial: u32, cause: u8) -> Moved
         ≡ reply (drop 3 (decisionQuestions c switch serial cause)) (unchanged c)
         (unchanged (decided c switch serial cause) 0) ⌝ }
 {
-    let p = c.playbook;
-    let plan = playbook::plan_of(p, switch, cause);
-    let last = c.last as u64 + plan.count as u64;
+    let book = c.playbook;
+    let p = c.progress;
+    let plan = playbook::plan_of(book, switch, cause);
+    let last = p.last as u64 + plan.count as u64;
     if limits::NUMBERS < last {
-        return stays(c, answer::NUMBERS_EXHAUSTED);
+        return answering(p, answer::NUMBERS_EXHAUSTED);
     }
-    let undone = c.undone;
-    let acknowledged = c.acknowledged;
-    let listed = p.changes;
-    let held = with_plan(undone, acknowledged, listed, plan.first, plan.count, c.last);
-    let mut serials = c.serials;
-    serials[switch as usize] = serial;
+    let undone = p.undone;
+    let acknowledged = p.acknowledged;
+    let listed = book.changes;
+    let held = with_plan(undone, acknowledged, listed, plan.first, plan.count, p.last);
+    let mut next = p;
+    next.serials[switch as usize] = serial;
+    next.last = last as u32;
+    next.undone = held;
     if limits::UNDONE < held.count {
-        return stays(c, answer::TOO_MANY_UNDONE);
+        return answering(p, answer::TOO_MANY_UNDONE);
     }
-    Moved {
-        answer: answer::DONE,
-        offer: Offer::Nothing,
-        acknowledged: acknowledged,
-        serials: serials,
-        last: last as u32,
-        undone: held,
-    }
+    answering(next, answer::DONE)
 }
 
 // Questions 20, whose answer is given, 12 and 22, then those of the plan.
@@ -107,15 +102,15 @@ fn decision(c: Controller, ok: bool, switch: u8, serial: u32, cause: u8) -> Move
     requires { ⌜ ok ≡ controllerOk c ⌝ }
     ensures { λ r. ⌜ movedBy c r ≡ decidedBy c switch serial cause ⌝ }
 {
+    let p = c.progress;
     if !ok {
-        return stays(c, answer::LIMITS_BROKEN);
+        return answering(p, answer::LIMITS_BROKEN);
     }
     if limits::SWITCHES <= switch {
-        return stays(c, answer::UNKNOWN_ID);
+        return answering(p, answer::UNKNOWN_ID);
     }
-    let serials = c.serials;
-    if serial <= serials[switch as usize] {
-        return stays(c, answer::SERIAL_DECIDED);
+    if serial <= p.serials[switch as usize] {
+        return answering(p, answer::SERIAL_DECIDED);
     }
     take_decision(c, switch, serial, cause)
 }
@@ -127,13 +122,8 @@ pub fn decide(mut c: Controller, switch: u8, serial: u32, cause: u8) -> Reply
     let ok = controller_ok(c);
     let m = decision(c, ok, switch, serial, cause);
     let offer = m.offer;
-    let acknowledged = m.acknowledged;
-    let serials = m.serials;
-    let undone = m.undone;
-    c.acknowledged = acknowledged;
-    c.serials = serials;
-    c.last = m.last;
-    c.undone = undone;
+    let progress = m.progress;
+    c.progress = progress;
     Reply {
         answer: m.answer,
         offer: offer,

@@ -34,16 +34,21 @@ pub struct Held {
     pub count: usize,
 }
 
-// A controller: its id, the number of controllers, the playbook, for each switch the highest number acknowledged and
-// the last decided serial, the last number given, and the undone changes.
-pub struct Controller {
-    pub id: u8,
-    pub n: u8,
-    pub playbook: Playbook,
+// The parts of a state that calls move: for each switch the highest number acknowledged and the last decided serial, the
+// last number given, and the undone changes.
+pub struct Progress {
     pub acknowledged: [u32; limits::PLACES],
     pub serials: [u32; limits::PLACES],
     pub last: u32,
     pub undone: Held,
+}
+
+// A controller: its id, the number of controllers, the playbook, and how far it has come.
+pub struct Controller {
+    pub id: u8,
+    pub n: u8,
+    pub playbook: Playbook,
+    pub progress: Progress,
 }
 
 // What a call offers for agreement: an event that was received, or nothing.
@@ -59,16 +64,13 @@ pub struct Reply {
     pub state: Controller,
 }
 
-// What a call does: its answer, what it offers, and the parts of the state that calls move, as they are afterwards. The
-// rest of the state, most of it the playbook, stays where it is; so each call puts the parts into its own state, since a
-// function that did it for them would copy the whole.
+// What a call does: its answer, what it offers, and the moving parts as they are afterwards. The rest of the state, most
+// of it the playbook, stays where it is; so each call puts the parts into its own state, since a function that did it
+// for them would copy the whole.
 pub(crate) struct Moved {
     pub answer: u8,
     pub offer: Offer,
-    pub acknowledged: [u32; limits::PLACES],
-    pub serials: [u32; limits::PLACES],
-    pub last: u32,
-    pub undone: Held,
+    pub progress: Progress,
 }
 
 // The ready change of a switch, or none.

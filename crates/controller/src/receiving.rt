@@ -14,7 +14,6 @@ use crate::limits;
 use crate::states::answering;
 use crate::states::controller_ok;
 use crate::states::state_question;
-use crate::states::stays;
 use message::End;
 use message::Message;
 
@@ -31,16 +30,15 @@ fn receive_event(
     ensures { λ r. ⌜ movedBy c r
         ≡ arrived c (now (keys .entry)) (now (bytes .entry)) (kinds.Event switch receiver serial cause) ⌝ }
 {
-    let m = stays(c, answer::DONE);
+    let p = c.progress;
     let k = message::sender_question(limits::SWITCHES, c.id, keys, bytes, switch, receiver);
     if k != answer::DONE {
-        return answering(m, k);
+        return answering(p, k);
     }
-    let serials = m.serials;
-    if serial <= serials[switch as usize] {
-        return answering(m, answer::SERIAL_DECIDED);
+    if serial <= p.serials[switch as usize] {
+        return answering(p, answer::SERIAL_DECIDED);
     }
-    offering(m, switch, serial, cause)
+    offering(p, switch, serial, cause)
 }
 
 // Questions 12 to 14, of the fields of an acknowledgement that was read from the bytes; then it is taken, or a repeat.
@@ -56,17 +54,17 @@ fn receive_acknowledgement(
     ensures { λ r. ⌜ movedBy c r
         ≡ arrived c (now (keys .entry)) (now (bytes .entry)) (kinds.Acknowledgement switch receiver number) ⌝ }
 {
-    let m = stays(c, answer::DONE);
+    let p = c.progress;
     let k = message::sender_question(limits::SWITCHES, c.id, keys, bytes, switch, receiver);
     if k != answer::DONE {
-        return answering(m, k);
+        return answering(p, k);
     }
     let s = switch as usize;
-    let acknowledged = m.acknowledged;
-    if number <= acknowledged[s] {
-        return answering(m, answer::REPEAT);
+    if number <= p.acknowledged[s] {
+        return answering(p, answer::REPEAT);
     }
-    acknowledged_by(m, s, number)
+    let next = acknowledged_by(p, s, number);
+    answering(next, answer::DONE)
 }
 
 // Questions 20, whose answer is given, 21, 10 and 11, then those of what was read.
@@ -74,9 +72,10 @@ fn receipt(c: Controller, ok: bool, keys: &[u8], bytes: &[u8]) -> Moved
     requires { ⌜ ok ≡ controllerOk c ⌝ }
     ensures { λ r. ⌜ movedBy c r ≡ receivedBy c (now (keys .entry)) (now (bytes .entry)) ⌝ }
 {
+    let p = c.progress;
     let k = state_question(ok, keys.len());
     if k != answer::DONE {
-        return stays(c, k);
+        return answering(p, k);
     }
     match message::read(End::Controller, bytes) {
         Message::Event {
@@ -90,13 +89,13 @@ fn receipt(c: Controller, ok: bool, keys: &[u8], bytes: &[u8]) -> Moved
             controller,
             number,
         } => receive_acknowledgement(c, keys, bytes, switch, controller, number),
-        Message::Refused(k) => stays(c, k),
+        Message::Refused(k) => answering(p, k),
         Message::Share {
             controller: _,
             switch: _,
             number: _,
             rule: _,
-        } => stays(c, answer::WRONG_KIND),
+        } => answering(p, answer::WRONG_KIND),
     }
 }
 
@@ -107,13 +106,8 @@ pub fn receive(mut c: Controller, keys: &[u8], bytes: &[u8]) -> Reply
     let ok = controller_ok(c);
     let m = receipt(c, ok, keys, bytes);
     let offer = m.offer;
-    let acknowledged = m.acknowledged;
-    let serials = m.serials;
-    let undone = m.undone;
-    c.acknowledged = acknowledged;
-    c.serials = serials;
-    c.last = m.last;
-    c.undone = undone;
+    let progress = m.progress;
+    c.progress = progress;
     Reply {
         answer: m.answer,
         offer: offer,

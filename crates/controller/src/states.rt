@@ -12,11 +12,11 @@ ghost use Rattle.message.specs.Keys.{keyLength};
 ghost use Rattle.controller.specs.Changes.{undoneEmpty, meaning, numbersOf};
 ghost use Rattle.controller.specs.States.{unchanged, inRange, fresh, setupOf};
 ghost use Rattle.controller.specs.States.{undoneOk, controllerOk};
-ghost use Rattle.controller.specs.Moving.{movedBy};
 use crate::Controller;
 use crate::Held;
 use crate::Moved;
 use crate::Offer;
+use crate::Progress;
 use crate::Reply;
 use crate::Undone;
 use crate::changes::is_undone;
@@ -36,38 +36,15 @@ fn replied(state: Controller, k: u8) -> Reply
     }
 }
 
-// An answer, and all parts of a state as they are.
-pub(crate) fn stays(c: Controller, k: u8) -> Moved
-    ensures { λ r. ⌜ movedBy c r ≡ unchanged c k ⌝ }
+// An answer with the moving parts, and nothing offered.
+pub(crate) fn answering(p: Progress, k: u8) -> Moved
+    ensures { λ r. ⌜ r ≡ record { answer = k; offer = Offer.Nothing; progress = p } ⌝ }
 {
-    let acknowledged = c.acknowledged;
-    let serials = c.serials;
-    let undone = c.undone;
     Moved {
         answer: k,
         offer: Offer::Nothing,
-        acknowledged: acknowledged,
-        serials: serials,
-        last: c.last,
-        undone: undone,
+        progress: p,
     }
-}
-
-// The same parts, with another answer.
-pub(crate) fn answering(m: Moved, k: u8) -> Moved
-    ensures { λ r. ⌜ r
-        ≡ record {
-          answer = k;
-          offer = m .offer;
-          acknowledged = m .acknowledged;
-          serials = m .serials;
-          last = m .last;
-          undone = m .undone;
-        } ⌝ }
-{
-    let mut next = m;
-    next.answer = k;
-    next
 }
 
 // That nothing is offered.
@@ -95,14 +72,17 @@ fn new(id: u8, n: u8, p: Playbook) -> Controller
     ensures { λ r. ⌜ r ≡ fresh id n p ⌝ }
 {
     let none = none_held();
-    Controller {
-        id: id,
-        n: n,
-        playbook: p,
+    let progress = Progress {
         acknowledged: [0; limits::PLACES],
         serials: [0; limits::PLACES],
         last: 0,
         undone: none,
+    };
+    Controller {
+        id: id,
+        n: n,
+        playbook: p,
+        progress: progress,
     }
 }
 
@@ -183,12 +163,12 @@ pub(crate) fn controller_ok(c: Controller) -> bool
     if !in_range(c.id, c.n) {
         return false;
     }
-    let undone = c.undone;
+    let undone = c.progress.undone;
     if limits::UNDONE < undone.count {
         return false;
     }
-    let acknowledged = c.acknowledged;
-    if !held_ok(undone, acknowledged, c.last) {
+    let acknowledged = c.progress.acknowledged;
+    if !held_ok(undone, acknowledged, c.progress.last) {
         return false;
     }
     let p = c.playbook;

@@ -18,7 +18,7 @@ fn current_share(c: Controller, switch: u8) -> Message
     requires { ⌜ controllerOk c ≡ true ⌝ }
     ensures { λ r. ⌜ r ≡ shareFor c switch ⌝ }
 {
-    let undone = c.undone;
+    let undone = c.progress.undone;
     let changes = undone.changes;
     match ready_in(changes, undone.count, switch) {
         Ready::Change(u) => {

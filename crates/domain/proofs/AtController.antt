@@ -22,7 +22,7 @@ use Rattle.message.specs.declared.Message.the-variants.{Event, Share, Acknowled
 use Rattle.message.proofs.Ends.{by-controller}
 use Rattle.message.proofs.Written.{Sent}
 use Rattle.playbook.specs.Printing.{InRange}
-use Rattle.controller.specs.Changes.{meaning}
+use Rattle.controller.specs.Changes.{undoneOf}
 use Rattle.controller.specs.States.{unchanged}
 use Rattle.controller.specs.Acknowledgements.{acknowledgedOf, acknowledge, takeAcknowledgement}
 use Rattle.controller.specs.Receiving.{receivedBy}
@@ -55,17 +55,17 @@ use Rattle.domain.proofs.Ends.{ControllerFine, decision-after}
 use Rattle.domain.proofs.Messages.{acknowledgement-said, sealed-tagged, From, is-from, from-asked, not-from}
 
 -- an acknowledgement, as the protocol takes it
-acknowledged-view : (t : Controller) (s k : ℕ) → s < length (t .acknowledged)
+acknowledged-view : (t : Controller) (s k : ℕ) → s < length (t .progress .acknowledged)
     → viewController (acknowledge t s k)
-    ≡ record { last = t .last; acknowledged = upd (λ i. acknowledgedOf t i) s k }
+    ≡ record { last = t .progress .last; acknowledged = upd (λ i. acknowledgedOf t i) s k }
 acknowledged-view t s k inside =
-    let each : (i : ℕ) → getD (set (t .acknowledged) s k) i 0 ≡ upd (λ i. acknowledgedOf t i) s k i =
-    λ i. by-eq s i (λ e. rw (← e, upd-same) (getD-set-same (t .acknowledged) s k 0 inside))
+    let each : (i : ℕ) → getD (set (t .progress .acknowledged) s k) i 0 ≡ upd (λ i. acknowledgedOf t i) s k i =
+    λ i. by-eq s i (λ e. rw (← e, upd-same) (getD-set-same (t .progress .acknowledged) s k 0 inside))
     (λ other. rw (upd-other (λ i. acknowledgedOf t i) s k i other)
-    (getD-set-other (t .acknowledged) s i k 0 (λ e. other (sym e)))) in
-    λ j. record { last = t .last; acknowledged = λ i. each i j }
+    (getD-set-other (t .progress .acknowledged) s i k 0 (λ e. other (sym e)))) in
+    λ j. record { last = t .progress .last; acknowledged = λ i. each i j }
 
-taken-view : (t : Controller) (s k : ℕ) → s < length (t .acknowledged)
+taken-view : (t : Controller) (s k : ℕ) → s < length (t .progress .acknowledged)
     → viewController (takeAcknowledgement t s k .state) ≡ protocol.acknowledge (viewController t) s k
 taken-view t s k inside =
     by-bool (ltb (acknowledgedOf t s) k) (λ e. rw e (acknowledged-view t s k inside)) (λ e. rw e)
@@ -215,10 +215,10 @@ module _ (S : Setting) (v : Valid S) (r : Run) (c : ℕ) (ds : List Decision)
     after = ds ++ decisionIn isBrought c (decidedBy t s serial cause .answer)
         (atController c (controller-calls.manages (controller-calls.decides s serial cause)))
 
-    same-numbers : decidedBy t s serial cause .state .acknowledged ≡ t .acknowledged
+    same-numbers : decidedBy t s serial cause .state .progress .acknowledged ≡ t .progress .acknowledged
     unfolding decidedBy
     same-numbers =
-        reply-keeps (λ (y : Reply). y .state .acknowledged ≡ t .acknowledged) _ _ _ (λ k. refl) (λ y. refl)
+        reply-keeps (λ (y : Reply). y .state .progress .acknowledged ≡ t .progress .acknowledged) _ _ _ (λ k. refl) (λ y. refl)
 
     pub decision-seen : S .agreed ≡ after ++ rest
         → Seen S r (atController c (controller-calls.manages (controller-calls.decides s serial cause)))
@@ -228,7 +228,7 @@ module _ (S : Setting) (v : Valid S) (r : Run) (c : ℕ) (ds : List Decision)
         let fine = decision-after S c ds t f s serial cause in
         record {
           is = moved (controller-calls.manages (controller-calls.decides s serial cause)) _
-              (ap (λ (l : List ℕ). record { last = next .last; acknowledged = λ i. getD l i 0 }) same-numbers)
+              (ap (λ (l : List ℕ). record { last = next .progress .last; acknowledged = λ i. getD l i 0 }) same-numbers)
               (messages (r .log)) refl;
           allowed = (
             call-grows keys t (controller-calls.manages (controller-calls.decides s serial cause)) .last,
@@ -246,8 +246,8 @@ module _ (S : Setting) (v : Valid S) (r : Run) (c : ℕ) (ds : List Decision)
       abbrev u : Undone
       u = allowed t keys s frame at e .change
 
-      readied : Readied s (meaning (t .undone)) u
-      readied = ready-sound s (meaning (t .undone)) u (allowed t keys s frame at e .ready)
+      readied : Readied s (undoneOf t) u
+      readied = ready-sound s (undoneOf t) u (allowed t keys s frame at e .ready)
 
       is-agreed : (changeOf (agreed S) (u .number) ≡ u) × protocol-worlds.Agreed D (u .number)
       is-agreed = undone-agreed S v ranged c ds rest begins t f u (readied .stands)

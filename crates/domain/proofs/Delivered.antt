@@ -22,7 +22,7 @@ use Rattle.playbook.specs.Printing.{InRange}
 use Rattle.switch.specs.Calls as switch-calls
 use Rattle.switch.specs.Writing.{written, acknowledgementWritten}
 use Rattle.switch.specs.declared.Switch.{Switch}
-use Rattle.controller.specs.Changes.{meaning}
+use Rattle.controller.specs.Changes.{undoneOf}
 use Rattle.controller.specs.Calls as controller-calls
 use Rattle.controller.specs.declared.Controller.{Controller}
 use Rattle.controller.specs.declared.Undone.{Undone}
@@ -103,12 +103,12 @@ module _ (S : Setting) (v : Valid S) where
     fine : Fine (playbook S) k u
     fine = change-fine S v ranged k is-agreed
 
-    readied : Readied (u .switch) (meaning (b .undone)) u
+    readied : Readied (u .switch) (undoneOf b) u
     readied = ready-readied S v ranged c ds rest begins b f k ready
 
     -- is there, and its switch takes it
     pub share-there : isMessage (shareNow r c (u .switch)) ≡ true
-    share-there = rw (ready-found (meaning (b .undone)) (within b (f .ok) .rising) (u .switch) u readied)
+    share-there = rw (ready-found (undoneOf b) (within b (f .ok) .rising) (u .switch) u readied)
 
     pub share-delivered : (w : Run)
         → seen S w (atSwitch (u .switch) (switch-calls.receives
@@ -121,7 +121,7 @@ module _ (S : Setting) (v : Valid S) where
         let m = Share (b .id) s (u .number) (u .rule) in
         let few = agreed-few (playbook S) (S .agreed) in
         let n = fine .numbered in
-        let found = ready-found (meaning (b .undone)) (within b (f .ok) .rising) s u readied in
+        let found = ready-found (undoneOf b) (within b (f .ok) .rising) s u readied in
         let port = and-parts (prefixOk (ruleKey (u .rule))) (portOk (u .rule .action)) (fine .formed) .1 in
         let read : decode ends.Switch (encode key m) ≡ Share c s k (u .rule) =
         decode-encode key m (omega (arith, is-agreed .1), fine .in-range .0, fine .in-range .1) port

@@ -20,7 +20,7 @@ use Rattle.switch.specs.States.{switchOk}
 use Rattle.switch.specs.Calls as switch-calls
 use Rattle.switch.specs.declared.Switch.{Switch}
 use Rattle.switch.proofs.Kept as switch-kept
-use Rattle.controller.specs.Changes.{meaning, stillUndone}
+use Rattle.controller.specs.Changes.{undoneOf, stillUndone}
 use Rattle.controller.specs.States as controller
 use Rattle.controller.specs.States.{unchanged, controllerOk}
 use Rattle.controller.specs.Receiving.{receivedBy}
@@ -77,9 +77,9 @@ module _ (S : Setting) where
   -- a controller that has come along the list as far as a
   pub record Follows (a : Course) (t : Controller) : Type 0 where
     pub book : t .playbook ≡ a .playbook
-    pub serials : t .serials ≡ a .serials
-    pub last : t .last ≡ length (a .changes)
-    pub undone : meaning (t .undone) ≡ stillUndone (t .acknowledged) (a .changes)
+    pub serials : t .progress .serials ≡ a .serials
+    pub last : t .progress .last ≡ length (a .changes)
+    pub undone : undoneOf t ≡ stillUndone (t .progress .acknowledged) (a .changes)
 
   abbrev pub courseOf : List Decision → Course
   courseOf ds = along (beginning (playbook S)) ds
@@ -88,7 +88,7 @@ module _ (S : Setting) where
   pub record ControllerFine (c : ℕ) (ds : List Decision) (t : Controller) : Type 0 where
     pub id : t .id ≡ c
     pub ok : controllerOk t ≡ true
-    pub long : length (t .acknowledged) ≡ 16
+    pub long : length (t .progress .acknowledged) ≡ 16
     pub follows : Follows (courseOf ds) t
 
   pub controller-set : Valid S → (c : ℕ) → c < S .n
@@ -117,7 +117,7 @@ module _ (S : Setting) where
     received-after keys bytes (acknowledged {s} {number} a above) = record {
       id = f .id;
       ok = controller-kept.acknowledge-kept t (f .ok) s number;
-      long = length-set (t .acknowledged) s number ∙ f .long;
+      long = length-set (t .progress .acknowledged) s number ∙ f .long;
       follows = record {
         book = f .follows .book;
         serials = f .follows .serials;
@@ -152,7 +152,7 @@ module _ (S : Setting) where
       unfolding decidedBy
       asked-so =
           asked (unchanged t) _ 20 _ _ (f .ok)
-          ∙ reply-append (agreementQuestions (t .serials) (t .last) (givenBy t (s, cause)) s serial) _ (unchanged t) _
+          ∙ reply-append (agreementQuestions (t .progress .serials) (t .progress .last) (givenBy t (s, cause)) s serial) _ (unchanged t) _
           ∙ ap (λ (qs : List Question). reply qs (unchanged t)
           (reply ((24, leb (length (heldAfter t (s, cause))) 64) ∷ []) (unchanged t)
           (unchanged (decided t s serial cause) 0)))
@@ -199,7 +199,7 @@ module _ (S : Setting) where
               serials = ap (λ (l : List ℕ). set l s serial) (f .follows .serials);
               last = rw (length-append, given-is, f .follows .last);
               undone = decided-leaves t (course .changes) (f .follows .undone) s serial cause room
-                  ∙ ap (λ (l : List Undone). stillUndone (t .acknowledged) (course .changes ++ l)) given-is;
+                  ∙ ap (λ (l : List Undone). stillUndone (t .progress .acknowledged) (course .changes ++ l)) given-is;
             });
           }))
           (λ is.

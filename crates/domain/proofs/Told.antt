@@ -13,7 +13,7 @@ use Rattle.flow.specs.declared.Rule.{Rule}
 use Rattle.flow.specs.declared.Table.{Table}
 use Rattle.controller.specs.Acknowledgements.{acknowledgedOf}
 use Rattle.controller.specs.Calls as controller-calls
-use Rattle.controller.specs.Changes.{emptyUndone, meaning, isUndone}
+use Rattle.controller.specs.Changes.{emptyUndone, undoneOf, isUndone}
 use Rattle.controller.specs.declared.Undone.{Undone}
 use Rattle.protocol.specs.Runs.{run}
 use Rattle.protocol.proofs.Ends as protocol
@@ -59,14 +59,14 @@ module _ (S : Setting) (v : Valid S) (r : Run) (R : Reached S r) (xs : List Call
       rw (← W .is) at known
 
   pub none-held : ((u : Undone) → List·Memᴰ u (agreedChanges (playbook S) (brought c (after .log)))
-      → isAmong (u .number) (answered S r) ≡ true) → meaning (after .controllers c .undone) ≡ []
+      → isAmong (u .number) (answered S r) ≡ true) → undoneOf (after .controllers c) ≡ []
   unfolding agreedChanges
   none-held made =
       let t = after .controllers c in
       let us = agreedChanges (playbook S) (brought c (after .log)) in
       let b = f .begun c keeps in
       W .reached .controllers c keeps .follows .undone
-      ∙ none-pass (isUndone (t .acknowledged)) us emptyUndone (λ i l.
+      ∙ none-pass (isUndone (t .progress .acknowledged)) us emptyUndone (λ i l.
       let u = getD us i emptyUndone in
       let is = beginning-is S v (ranged S v) (brought c (after .log)) (b .0) (b .1) i l in
       let g : Agreed D (i + 1) = (omega arith, omega (arith, is .1)) in

@@ -14,7 +14,7 @@ use Rattle.lists.proofs.Tails.{every-at, every-all}
 use Rattle.flow.specs.declared.Rule.{Rule}
 use Rattle.flow.specs.declared.Table.{Table}
 use Rattle.playbook.specs.Printing.{InRange}
-use Rattle.controller.specs.Changes.{emptyUndone, meaning, isUndone, stillUndone}
+use Rattle.controller.specs.Changes.{emptyUndone, undoneOf, isUndone, stillUndone}
 use Rattle.controller.specs.Readiness.{waitsFor}
 use Rattle.controller.specs.declared.Controller.{Controller}
 use Rattle.controller.specs.declared.Undone.{Undone}
@@ -58,12 +58,12 @@ passing-from f (x ∷ l) j h =
 
 -- as many numbers are given as the decisions brought have changes, and no more than are agreed
 pub last-given : (S : Setting) (c : ℕ) (ds : List Decision) (t : Controller) → ControllerFine S c ds t
-    → t .last ≡ length (agreedChanges (playbook S) ds)
+    → t .progress .last ≡ length (agreedChanges (playbook S) ds)
 unfolding agreedChanges
 last-given S c ds t f = f .follows .last
 
 pub given-few : (S : Setting) (c : ℕ) (ds rest : List Decision) → S .agreed ≡ ds ++ rest → (t : Controller)
-    → ControllerFine S c ds t → t .last ≤ length (agreed S)
+    → ControllerFine S c ds t → t .progress .last ≤ length (agreed S)
 given-few S c ds rest begins t f = omega (arith, last-given S c ds t f, beginning-few S ds rest begins)
 
 module _ (S : Setting) (v : Valid S) (ranged : InRange (playbook S)) (c : ℕ) (ds rest : List Decision)
@@ -72,20 +72,20 @@ module _ (S : Setting) (v : Valid S) (ranged : InRange (playbook S)) (c : ℕ) (
   D = domainOf S
 
   abbrev us : List Undone
-  us = meaning (t .undone)
+  us = undoneOf t
 
   abbrev sofar : List Undone
   sofar = agreedChanges (playbook S) ds
 
-  held-is : us ≡ stillUndone (t .acknowledged) sofar
+  held-is : us ≡ stillUndone (t .progress .acknowledged) sofar
   unfolding agreedChanges
   held-is = f .follows .undone
 
-  last-is : t .last ≡ length sofar
+  last-is : t .progress .last ≡ length sofar
   last-is = last-given S c ds t f
 
   -- a number given: its change stands among those so far
-  given-at : (k : ℕ) → 0 < k → k ≤ t .last → (undoneAt sofar (k - 1) ≡ changeOf (agreed S) k) × Agreed D k
+  given-at : (k : ℕ) → 0 < k → k ≤ t .progress .last → (undoneAt sofar (k - 1) ≡ changeOf (agreed S) k) × Agreed D k
   given-at k positive few =
       let inside : k - 1 < length sofar = omega (arith, last-is) in
       let e : k - 1 + 1 ≡ k = omega arith in
@@ -95,8 +95,8 @@ module _ (S : Setting) (v : Valid S) (ranged : InRange (playbook S)) (c : ℕ) (
   -- an undone change is the agreed one of its number
   pub undone-agreed : (u : Undone) → Stands us u → (changeOf (agreed S) (u .number) ≡ u) × Agreed D (u .number)
   undone-agreed u a =
-      let inside : a .place < length (stillUndone (t .acknowledged) sofar) = rw (← held-is) (a .inside) in
-      let from = passing-from (isUndone (t .acknowledged)) sofar (a .place) inside in
+      let inside : a .place < length (stillUndone (t .progress .acknowledged) sofar) = rw (← held-is) (a .inside) in
+      let from = passing-from (isUndone (t .progress .acknowledged)) sofar (a .place) inside in
       let i = from .place in
       let same : undoneAt sofar i ≡ u =
       from .there ∙ ap (λ (l : List Undone). undoneAt l (a .place)) (sym held-is) ∙ a .there in
@@ -108,14 +108,14 @@ module _ (S : Setting) (v : Valid S) (ranged : InRange (playbook S)) (c : ℕ) (
       (ap (changeOf (agreed S)) number ∙ change, subst (Agreed D) (sym number) (is .1))
 
   -- a number given that is not done: its change is held
-  undone-stands : (k : ℕ) → 0 < k → k ≤ t .last → getD (t .acknowledged) (D .switch k) 0 < k
+  undone-stands : (k : ℕ) → 0 < k → k ≤ t .progress .last → getD (t .progress .acknowledged) (D .switch k) 0 < k
       → Stands us (changeOf (agreed S) k)
   undone-stands k positive few above =
       let is = given-at k positive few in
       let n = change-fine S v ranged k (is .1) .numbered in
-      rw held-is (stands-passing (isUndone (t .acknowledged)) sofar (changeOf (agreed S) k)
+      rw held-is (stands-passing (isUndone (t .progress .acknowledged)) sofar (changeOf (agreed S) k)
       (record { place = k - 1; inside = omega (arith, last-is); there = is .0 })
-      (lt-ltb (getD (t .acknowledged) (D .switch k) 0) (changeOf (agreed S) k .number) (rw n above)))
+      (lt-ltb (getD (t .progress .acknowledged) (D .switch k) 0) (changeOf (agreed S) k .number) (rw n above)))
 
   -- what is ready among the undone changes is ready in the protocol
   pub readied-ready : (s : ℕ) (u : Undone) → Readied s us u → Ready D (viewController t) (u .number)
@@ -128,11 +128,11 @@ module _ (S : Setting) (v : Valid S) (ranged : InRange (playbook S)) (c : ℕ) (
         given = fits .given;
         undone = rw (is .0) (fits .above);
         free = λ j e.
-            by-le j (getD (t .acknowledged) (D .switch j) 0) (λ low. low)
+            by-le j (getD (t .progress .acknowledged) (D .switch j) 0) (λ low. low)
             (λ high.
             let both = and-parts (ltb 0 j && ltb j (u .number)) _ e in
             let parts = and-parts (ltb 0 j) (ltb j (u .number)) (both .0) in
-            let few : j ≤ t .last = omega (arith, ltb-true j (u .number) (parts .1), fits .given) in
+            let few : j ≤ t .progress .last = omega (arith, ltb-true j (u .number) (parts .1), fits .given) in
             let stands = undone-stands j (ltb-true _ _ (parts .0)) few high in
             let free = rw (stands .there) at
             (every-at (λ w. not (waitsFor u w)) us (stands .place) emptyUndone (a .ready) (stands .inside)) in

@@ -73,7 +73,7 @@ abbrev pub viewReply : Reply → protocol.Reply Rule Table
 viewReply r = record { answer = r .answer; state = viewSwitch (r .state) }
 
 abbrev pub viewController : Controller → protocol.Controller
-viewController c = record { last = c .last; acknowledged = λ s. acknowledgedOf c s }
+viewController c = record { last = c .progress .last; acknowledged = λ s. acknowledgedOf c s }
 
 -- what was written, before what was written earlier
 abbrev pub shareSaid : ℕ → ℕ → Message → List (protocol-worlds.Message Rule) → List (protocol-worlds.Message Rule)
@@ -180,7 +180,7 @@ module _ (S : Setting) where
       pick (eqb (shareWritten (r .controllers c) (controllerKeys S c) s frame at .0 .answer) 0)
       (readySeen c (shareFor (r .controllers c) s)) protocol-worlds.other
   seen r (atController c (controller-calls.manages (controller-calls.decides s serial cause))) =
-      protocol-worlds.decides c (decidedBy (r .controllers c) s serial cause .state .last)
+      protocol-worlds.decides c (decidedBy (r .controllers c) s serial cause .state .progress .last)
 
 -- a call is the protocol's, and one that is allowed there
 pub record Seen (S : Setting) (r : Run) (x : Call) : Type 0 where

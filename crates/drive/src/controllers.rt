@@ -14,6 +14,7 @@ use cases::u32_at;
 use controller::Controller;
 use controller::Held;
 use controller::Offer;
+use controller::Progress;
 use controller::Reply;
 use controller::Undone;
 use flow::Rule;
@@ -71,14 +72,14 @@ fn say_numbers(name: &[u8], numbers: [u32; 16]) {
 }
 
 fn say_state(c: Controller) {
-    let held = c.undone;
+    let held = c.progress.undone;
     let book = c.playbook;
-    let acknowledged = c.acknowledged;
-    let serials = c.serials;
+    let acknowledged = c.progress.acknowledged;
+    let serials = c.progress.serials;
     say(b" state");
     say_byte(c.id);
     say_byte(c.n);
-    say_word(c.last);
+    say_word(c.progress.last);
     books::say_counts(book);
     say_numbers(b" acknowledged", acknowledged);
     say_numbers(b" serial", serials);
@@ -155,6 +156,18 @@ fn rule_at(b: &[u8], place: u8) -> Rule {
     }
 }
 
+fn with_progress(c: Controller, p: Progress) -> Controller {
+    let mut next = c;
+    next.progress = p;
+    next
+}
+
+fn with_held(c: Controller, held: Held) -> Controller {
+    let mut p = c.progress;
+    p.undone = held;
+    with_progress(c, p)
+}
+
 fn with_undone(c: Controller, i: usize, b: &[u8]) -> Controller {
     let rule = rule_at(b, 12);
     let u = Undone {
@@ -164,21 +177,17 @@ fn with_undone(c: Controller, i: usize, b: &[u8]) -> Controller {
         switch: byte_at(b, 11),
         rule: rule,
     };
-    let mut held = c.undone;
+    let mut held = c.progress.undone;
     if i < 64 {
         held.changes[i] = u;
     }
-    let mut next = c;
-    next.undone = held;
-    next
+    with_held(c, held)
 }
 
 fn with_count(c: Controller, count: usize) -> Controller {
-    let mut held = c.undone;
+    let mut held = c.progress.undone;
     held.count = count;
-    let mut next = c;
-    next.undone = held;
-    next
+    with_held(c, held)
 }
 
 fn with_plan(c: Controller, i: usize, b: &[u8]) -> Controller {
@@ -224,20 +233,26 @@ fn with_counts(c: Controller, b: &[u8]) -> Controller {
     next
 }
 
+fn with_last(c: Controller, k: u32) -> Controller {
+    let mut p = c.progress;
+    p.last = k;
+    with_progress(c, p)
+}
+
 fn with_acknowledged(c: Controller, i: usize, k: u32) -> Controller {
-    let mut next = c;
+    let mut p = c.progress;
     if i < 16 {
-        next.acknowledged[i] = k;
+        p.acknowledged[i] = k;
     }
-    next
+    with_progress(c, p)
 }
 
 fn with_serial(c: Controller, i: usize, k: u32) -> Controller {
-    let mut next = c;
+    let mut p = c.progress;
     if i < 16 {
-        next.serials[i] = k;
+        p.serials[i] = k;
     }
-    next
+    with_progress(c, p)
 }
 
 // The state with one field altered, by its number.
@@ -254,10 +269,7 @@ fn altered(c: Controller, b: &[u8]) -> Controller {
             next.n = x;
             next
         }
-        2 => {
-            next.last = u32_at(b, 1);
-            next
-        }
+        2 => with_last(c, u32_at(b, 1)),
         3 => with_acknowledged(c, i, u32_at(b, 2)),
         4 => with_serial(c, i, u32_at(b, 2)),
         5 => with_undone(c, i, b),

@@ -161,7 +161,7 @@ fn count_of(held: Held) -> u32 {
 
 // Whether a controller has taken no decision: no serial was decided.
 fn took_none(c: Controller) -> bool {
-    let serials = c.serials;
+    let serials = c.progress.serials;
     let mut i: usize = 0;
     while i < 16 {
         if serials[i] != 0 {
@@ -180,7 +180,7 @@ fn say_nothing_left(c: Controller) {
 }
 
 fn say_controller(c: Controller) {
-    let held = c.undone;
+    let held = c.progress.undone;
     say_name(b"controller", c.id as u32);
     say(b" has ");
     say_count(count_of(held));

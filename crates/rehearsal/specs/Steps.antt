@@ -12,7 +12,7 @@ use Rattle.switch.specs.Receiving as switch-receives
 use Rattle.switch.specs.Writing.{acknowledgementWritten}
 use Rattle.switch.specs.declared.Reply as switch
 use Rattle.switch.specs.declared.Switch.{Switch}
-use Rattle.controller.specs.Changes.{meaning}
+use Rattle.controller.specs.Changes.{undoneOf}
 use Rattle.controller.specs.States as controllers
 use Rattle.controller.specs.Receiving as controller-receives
 use Rattle.controller.specs.Decisions.{decidedBy}
@@ -59,7 +59,7 @@ module _ (c : Controller) (s : Switch) (p : Place) where
   abbrev pub byController : controller.Reply → Moved
   byController r = record {
     answer = r .answer;
-    figure = length (meaning (r .state .undone));
+    figure = length (undoneOf (r .state));
     controller = r .state;
     switch = s;
     place = p;

@@ -101,7 +101,7 @@ fn by_controller(c: Controller, s: Switch, place: Place, r: controller::Reply) -
     ensures { λ m. ⌜ m ≡ byController c s place r ⌝ }
 {
     let state = r.state;
-    let undone = state.undone;
+    let undone = state.progress.undone;
     let figure = undone_in(undone);
     Moved {
         answer: r.answer,

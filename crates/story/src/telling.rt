@@ -93,9 +93,9 @@ fn begun(r: Record, c: Controller, s: Switch, share: Share, m: Moved) -> Step {
     let giver = share.giver;
     let after = m.switch;
     let grown = m.controller;
-    let held = c.undone;
+    let held = c.progress.undone;
     let sender = sender_of(r, share);
-    let given = numbers_between(c.last, grown.last);
+    let given = numbers_between(c.progress.last, grown.progress.last);
     let reason = reasons::reason_of(held, s.id);
     Step {
         kind: kind_of(kind),
@@ -108,7 +108,7 @@ fn begun(r: Record, c: Controller, s: Switch, share: Share, m: Moved) -> Step {
         answer: m.answer,
         figure: m.figure,
         shared: share.made,
-        number: number_of(share, given, grown.last),
+        number: number_of(share, given, grown.progress.last),
         rule: rule,
         agreeing: shares::agreeing(after, share.number, rule),
         replaced: shares::held_from(s, sender),

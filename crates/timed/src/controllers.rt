@@ -63,8 +63,8 @@ fn decide_all(controller: Controller, switch: u8, cause: u8, times: u32) -> Call
 // The sum of calls, with the last number given and how many changes are undone.
 fn told(c: Called) -> u64 {
     let state = c.state;
-    let undone = state.undone;
-    mix(mix(c.sum, state.last), (undone.count % 256) as u32)
+    let undone = state.progress.undone;
+    mix(mix(c.sum, state.progress.last), (undone.count % 256) as u32)
 }
 
 // Decisions on one trigger, after acknowledgements. On a switch past the last one they are refused right after question
@@ -165,8 +165,10 @@ pub extern "C" fn timed_in_turn(
 // The state with another serial decided for the last switch, so that no two calls in a row are at the same state: a
 // compiler might ask question 20 of it once for all turns.
 fn stirred(c: Controller, serial: u32) -> Controller {
+    let mut p = c.progress;
+    p.serials[15] = serial;
     let mut next = c;
-    next.serials[15] = serial;
+    next.progress = p;
     next
 }
 

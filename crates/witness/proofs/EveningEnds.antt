@@ -35,7 +35,7 @@ use Rattle.switch.specs.States.{switchOk}
 use Rattle.switch.specs.Shares.{stored, applied, takeShare}
 use Rattle.switch.specs.Receiving.{receivedBy}
 use Rattle.switch.specs.declared.Switch.{Switch}
-use Rattle.controller.specs.Changes.{meaning, numbersOf, numbered, numberedFrom}
+use Rattle.controller.specs.Changes.{undoneOf, numbersOf, numbered, numberedFrom}
 use Rattle.controller.specs.States as controller
 use Rattle.controller.specs.States.{unchanged, controllerOk}
 use Rattle.controller.specs.Decisions.{givenBy, heldAfter, decided, decidedBy}
@@ -104,7 +104,7 @@ module _ (c : ℕ) where
   unfolding passing
   held = rw given
 
-  undone : meaning (aware .undone) ≡ changes
+  undone : undoneOf aware ≡ changes
   unfolding pad
   undone = rw held
 

@@ -13,7 +13,7 @@ use Rattle.answer.specs.Ask.{pick}
 use Rattle.answer.proofs.Bools.{by-bool, by-eq, by-le, tf, pick-keeps}
 use Rattle.controller.specs.Calls.{decides, writesShare, manages}
 use Rattle.controller.specs.Calls as controller-calls
-use Rattle.controller.specs.Changes.{meaning}
+use Rattle.controller.specs.Changes.{undoneOf}
 use Rattle.controller.specs.declared.Controller.{Controller}
 use Rattle.controller.proofs.Full.{full-means}
 use Rattle.protocol.specs.Runs.{run, Every}
@@ -104,7 +104,7 @@ module _ (S : Setting) where
 
     -- those below k hold nothing and wait for it, the others were brought it
     record Waiting (k : ℕ) (r : Run) : Type 0 where
-      yet : (c : ℕ) → Keeps S c → c < k → (brought c (r .log) ≡ ds) × (meaning (r .controllers c .undone) ≡ [])
+      yet : (c : ℕ) → Keeps S c → c < k → (brought c (r .log) ≡ ds) × (undoneOf (r .controllers c) ≡ [])
       done : (c : ℕ) → Keeps S c → k ≤ c → brought c (r .log) ≡ ds ++ d ∷ []
 
     waiting-begun : (k : ℕ) (r : Run) → Waiting k r → Begun S r
@@ -134,7 +134,7 @@ module _ (S : Setting) where
             let apart : k ≡ c → ⊥ = λ e. omega arith in
             let old = w .yet c other (omega arith) in (
               by-other S _ r c k _ apart ∙ old .0,
-              ap (λ (t : Controller). meaning (t .undone)) (elsewhere c apart) ∙ old .1,
+              ap undoneOf (elsewhere c apart) ∙ old .1,
             );
         done = λ c other l. by-eq k c
             (λ e. subst (λ (i : ℕ). brought i (step S r (deciding k) .log) ≡ ds ++ d ∷ []) e itself)

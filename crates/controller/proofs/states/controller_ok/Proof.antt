@@ -8,7 +8,7 @@ use lib.ListN.{drop}
 use Rattle.lists.specs.Arrays.{every}
 use Rattle.lists.specs.Rising.{risingFrom}
 use Rattle.playbook.specs.Storing.{storedOk}
-use Rattle.controller.specs.Changes.{undoneEmpty, meaning, numbersOf}
+use Rattle.controller.specs.Changes.{undoneEmpty, undoneOf, numbersOf}
 use Rattle.controller.specs.States.{inRange, undoneOk, controllerOk}
 use Rattle.controller.proofs.states.controller_ok.Statement.{statement}
 use Rattle.controller.proofs.states.controller_ok.Tie as tie
@@ -21,14 +21,14 @@ ranged c = sym (c .before .in-range .ensures) ∙ not-false _ (c .if1 .left)
 asked : (c : tie.Else2)
     → let s = c .before .before .before .before .before .args .c in
     controllerOk s
-    ≡ (every (undoneOk (s .acknowledged) (s .last)) (meaning (s .undone))
-    && risingFrom 0 (numbersOf (meaning (s .undone)))
-    && every undoneEmpty (drop (s .undone .count) (s .undone .changes))
+    ≡ (every (undoneOk (s .progress .acknowledged) (s .progress .last)) (undoneOf s)
+    && risingFrom 0 (numbersOf (undoneOf s))
+    && every undoneEmpty (drop (s .progress .undone .count) (s .progress .undone .changes))
     && storedOk (s .playbook))
 unfolding controllerOk
 asked c =
     let s = c .before .before .before .before .before .args .c in
-    rw (ranged (c .before .before .before), le-leb (s .undone .count) 64 (omega arith))
+    rw (ranged (c .before .before .before), le-leb (s .progress .undone .count) 64 (omega arith))
 
 returns : tie.Need-returns
 unfolding controllerOk
@@ -38,7 +38,7 @@ returns-2 : tie.Need-returns-2
 unfolding controllerOk
 returns-2 c =
     let s = c .before .before .before .before .before .args .c in
-    rw (ranged (c .before .before .before), lt-leb (s .undone .count) 64 (omega arith))
+    rw (ranged (c .before .before .before), lt-leb (s .progress .undone .count) 64 (omega arith))
 
 returns-3 : tie.Need-returns-3
 returns-3 c =
