@@ -113,7 +113,7 @@ module _ (c : Controller) (keys : List ℕ) (s : ℕ) (frame : List ℕ) (at : �
           ready = there .1;
         }
 
-    frame-is : shareWritten c keys s frame at .1 ≡ placed (encode (keyAt keys s) (shareFor c s)) frame at
+    pub frame-is : shareWritten c keys s frame at .1 ≡ placed (encode (keyAt keys s) (shareFor c s)) frame at
     unfolding shareWritten
     frame-is = ap (λ (r : Reply × List ℕ). r .1) (all-yes questions _ _ refl (sym answer-is ∙ h))
 

@@ -5,6 +5,7 @@ pub mod Texts
 pub mod Room
 pub mod Cut
 pub mod Named
+pub mod Shares
 mod Fields
 mod Filling
 mod Inputs

@@ -1,15 +1,18 @@
--- Messages made and delivered with the keys of a rehearsal. Assumes nothing.
+-- Messages made and delivered with the keys of a rehearsal.
 use mathlib.Core.Path.{_≡_, refl, sym, ap, _∙_}
-use mathlib.Core.List.{List, [], _∷_}
-use Prim.Native.Nat.{ℕ, zero, suc, _*_, _≤_, _<_}
+use mathlib.Core.List.{List, [], _∷_, _++_}
+use Prim.Native.Nat.{ℕ, zero, suc, _+_, _*_, _≤_, _<_}
 use native.Mathlib.Omega.{arith}
+use borrow.Author.Tests.{ne-eqb}
 use lib.Dec.{eqb}
-use lib.ListN.{length, take, getD, replicate}
+use lib.ListN.{length, take, drop, getD, replicate}
 use lib.Seq.{take-all, take-append-le}
 use Rattle.answer.specs.Ask.{pick}
 use Rattle.answer.proofs.Bools.{by-le}
+use Rattle.lists.specs.Arrays.{pad}
 use Rattle.message.specs.Keys.{joined}
 use Rattle.message.specs.Layout.{shareLength, acknowledgementLength}
+use Rattle.message.specs.Writing.{placed}
 use Rattle.message.proofs.Stores.{joined-length}
 use Rattle.switch.specs.Receiving as switch-receives
 use Rattle.switch.specs.Writing.{acknowledgementWritten}
@@ -20,8 +23,10 @@ use Rattle.controller.specs.Receiving as controller-receives
 use Rattle.controller.specs.Writing.{shareWritten}
 use Rattle.controller.specs.declared.Reply as controller
 use Rattle.controller.specs.declared.Controller.{Controller}
-use Rattle.rehearsal.specs.Worlds.{keyOf, switchKeys, controllerKeys}
+use Rattle.controller.proofs.Sent.{frame-is}
+use Rattle.rehearsal.specs.Worlds.{keyOf, switchKeys, controllerKeys, longestShare, stored}
 use Rattle.rehearsal.specs.Steps.{delivered, shareMade, reported}
+use Rattle.rehearsal.proofs.Shares.{currentShare, writing, written-length}
 
 -- an element that is there, whatever stands where none is
 pub getD-any : {A : Type 0} (l : List A) (i : ℕ) (d e : A) → i < length l → getD l i d ≡ getD l i e
@@ -54,12 +59,46 @@ pub delivered-by : (n to : ℕ) (s : Switch) (bytes : List ℕ) {keys : List ℕ
     → r ≡ delivered n s to bytes
 delivered-by n to s bytes few e h = rw (← lent n to _ few e) h
 
-pub made-share : (c : Controller) (from to : ℕ) {keys : List ℕ} {r : controller.Reply} {frame : List ℕ}
-    → keys ≡ controllerKeys from → (r, frame) ≡ shareWritten c keys to (replicate shareLength 0) 0
-    → record { answer = r .answer; share = frame } ≡ shareMade c from to
-unfolding shareMade
-made-share c from to e h =
-    ap (λ (w : controller.Reply × List ℕ). record { answer = w .0 .answer; share = w .1 }) h ∙ rw e
+-- bytes written to the front of an array of zeros
+padded : (n : ℕ) (bytes : List ℕ) → length bytes ≤ n → bytes ++ drop (length bytes) (replicate n 0) ≡ pad n 0 bytes
+unfolding pad
+padded zero [] h = refl
+padded zero (x ∷ bytes) h = absurd (omega arith)
+padded (suc n) [] h = ap (λ (l : List ℕ). 0 ∷ l) (padded n [] (omega arith))
+padded (suc n) (x ∷ bytes) h = ap (λ (l : List ℕ). x ∷ l) (padded n bytes (omega arith))
+
+in-front : (n : ℕ) (bytes : List ℕ) → length bytes ≤ n → placed bytes (replicate n 0) 0 ≡ pad n 0 bytes
+in-front n bytes h =
+    let e : 0 + length bytes ≡ length bytes = omega arith in
+    rw e (padded n bytes h)
+
+-- a share made from what its controller wrote into an array of zeros
+module _ (c : Controller) (from to : ℕ) {keys : List ℕ} {r : controller.Reply} {frame : List ℕ}
+    (own : keys ≡ controllerKeys from)
+    (written : (r, frame) ≡ shareWritten c keys to (replicate longestShare 0) 0) where
+  same : (r, frame) ≡ writing c from to
+  same = written ∙ rw own
+
+  same-answer : r .answer ≡ writing c from to .0 .answer
+  same-answer = ap (λ (w : controller.Reply × List ℕ). w .0 .answer) same
+
+  pub share-refused : (r .answer ≡ 0 → ⊥) → record { answer = r .answer; share = stored [] } ≡ shareMade c from to
+  unfolding shareMade
+  share-refused refused = rw (← same-answer, ne-eqb (r .answer) 0 refused)
+
+  module _ (passed : r .answer ≡ 0) where
+    answered : writing c from to .0 .answer ≡ 0
+    answered = sym same-answer ∙ passed
+
+    frame-stored : frame ≡ pad longestShare 0 (currentShare c from to)
+    frame-stored =
+        ap (λ (w : controller.Reply × List ℕ). w .1) same
+        ∙ frame-is c (controllerKeys from) to (replicate longestShare 0) 0 answered
+        ∙ in-front longestShare (currentShare c from to) (omega (arith, written-length c from to answered))
+
+    pub share-made : record { answer = 0; share = record { bytes = frame; length = shareLength } } ≡ shareMade c from to
+    unfolding shareMade
+    share-made = rw (answered, frame-stored, written-length c from to answered)
 
 pub reported-by : (n from to : ℕ) (s : Switch) (c : Controller) {keys : List ℕ} {r : switch.Reply} {frame : List ℕ}
     → n ≤ 16 → keys ≡ joined (λ (i : ℕ). keyOf i from) 16

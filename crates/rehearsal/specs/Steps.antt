@@ -1,12 +1,14 @@
 -- What one record does to the controller, the switch and the place that it names (document 01, "Rehearsal program"), by
 -- the ends' own definitions: a share or an acknowledgement is made in a frame of its own, which alters no state, and
--- delivered. Assumes nothing.
+-- delivered.
 use Prim.Native.Nat.{ℕ}
 use mathlib.Core.List.{List, [], _∷_}
 use lib.ListN.{length, replicate, drop}
 use lib.Dec.{eqb, leb}
 use Rattle.answer.specs.Ask.{pick, reply}
-use Rattle.message.specs.Layout.{shareLength, acknowledgementLength}
+use Rattle.message.specs.Keys.{keyAt}
+use Rattle.message.specs.Layout.{acknowledgementLength}
+use Rattle.message.specs.Writing.{encode}
 use Rattle.switch.specs.States as switches
 use Rattle.switch.specs.Receiving as switch-receives
 use Rattle.switch.specs.Writing.{acknowledgementWritten}
@@ -16,10 +18,10 @@ use Rattle.controller.specs.Changes.{undoneOf}
 use Rattle.controller.specs.States as controllers
 use Rattle.controller.specs.Receiving as controller-receives
 use Rattle.controller.specs.Decisions.{decidedBy}
-use Rattle.controller.specs.Writing.{shareWritten}
+use Rattle.controller.specs.Writing.{shareFor, shareWritten}
 use Rattle.controller.specs.declared.Reply as controller
 use Rattle.controller.specs.declared.Controller.{Controller}
-use Rattle.rehearsal.specs.Worlds.{switchKeys, controllerKeys}
+use Rattle.rehearsal.specs.Worlds.{switchKeys, controllerKeys, longestShare, stored, bytesOf}
 use Rattle.rehearsal.specs.declared.Kind.{Kind}
 use Rattle.rehearsal.specs.declared.Kind.the-variants.{Decide, Send, Report, Raw, Keep, Deliver}
 use Rattle.rehearsal.specs.declared.Made.{Made}
@@ -31,17 +33,19 @@ use Rattle.rehearsal.specs.declared.Record.{Record}
 abbrev pub delivered : ℕ → Switch → ℕ → List ℕ → switch.Reply
 delivered n s to bytes = switch-receives.receivedBy s (switchKeys n to) bytes
 
--- the current share of the controller with a number, for a switch
+-- the current share of the controller with a number, for a switch: the bytes of its message, where writing it into a
+-- frame with room for the longest share is answered 0, and else no bytes
 unfoldable pub shareMade : Controller → ℕ → ℕ → Made
 shareMade c from to =
-    let w = shareWritten c (controllerKeys from) to (replicate shareLength 0) 0 in
-    record { answer = w .0 .answer; share = w .1 }
+    let keys = controllerKeys from in
+    let k = shareWritten c keys to (replicate longestShare 0) 0 .0 .answer in
+    record { answer = k; share = stored (pick (eqb k 0) (encode (keyAt keys to) (shareFor c to)) []) }
 
 -- send: the share that was made is delivered
 unfoldable pub sent : ℕ → Controller → Switch → ℕ → ℕ → switch.Reply
 sent n c s from to =
     let m = shareMade c from to in
-    pick (eqb (m .answer) 0) (delivered n s to (m .share)) (switches.unchanged s (m .answer))
+    pick (eqb (m .answer) 0) (delivered n s to (bytesOf (m .share))) (switches.unchanged s (m .answer))
 
 -- report: the same for the acknowledgement
 unfoldable pub reported : ℕ → Switch → Controller → ℕ → ℕ → controller.Reply
@@ -96,7 +100,7 @@ module _ (c : Controller) (s : Switch) (p : Place) where
   carriedOut n Report r bytes = byController (reported n s c (r .switch) (r .controller))
   carriedOut n Raw r bytes = bySwitch (delivered n s (r .switch) (drop 2 bytes))
   carriedOut n Keep r bytes = byPlace (shareMade c (r .controller) (r .switch)) (r .switch)
-  carriedOut n Deliver r bytes = bySwitch (delivered n s (p .switch) (p .share))
+  carriedOut n Deliver r bytes = bySwitch (delivered n s (p .switch) (bytesOf (p .share)))
 
   -- the same of all numbers and bytes: at most sixteen controllers? Two bytes of the record, or more?
   abbrev pub performed : ℕ → Record → List ℕ → Moved

@@ -1,13 +1,15 @@
 -- The world of a rehearsal (document 01, "Rehearsal program"): its keys, its ends and its places. Assumes nothing.
 use Prim.Native.Nat.{ℕ, zero, suc}
 use mathlib.Core.List.{List, [], _∷_, _++_}
-use lib.ListN.{replicate}
+use lib.ListN.{length, take, replicate}
+use Rattle.lists.specs.Arrays.{pad}
 use Rattle.message.specs.Keys.{joined}
 use Rattle.message.specs.Layout.{shareLength}
 use Rattle.playbook.specs.declared.Playbook.{Playbook}
 use Rattle.switch.specs.States as switch
 use Rattle.controller.specs.States as controller
 use Rattle.rehearsal.specs.declared.Place.{Place}
+use Rattle.rehearsal.specs.declared.Share.{Share}
 use Rattle.rehearsal.specs.declared.World.{World}
 
 -- the key of controller c and switch s
@@ -21,9 +23,20 @@ switchKeys n s = joined (λ c. keyOf c s) n
 abbrev pub controllerKeys : ℕ → List ℕ
 controllerKeys c = joined (keyOf c) 16
 
+-- the room that every share fits
+abbrev pub longestShare : ℕ
+longestShare = shareLength
+
+-- bytes stored in that room, and the bytes of a share
+abbrev pub stored : List ℕ → Share
+stored bytes = record { bytes = pad longestShare 0 bytes; length = length bytes }
+
+abbrev pub bytesOf : Share → List ℕ
+bytesOf s = take (s .length) (s .bytes)
+
 -- a place with nothing in it: no kept share is for a switch past the last one
 abbrev pub emptyPlace : Place
-emptyPlace = record { switch = 16; share = replicate shareLength 0 }
+emptyPlace = record { switch = 16; share = stored [] }
 
 -- the things with the first n numbers
 unfoldable pub each : {A : Type 0} → (ℕ → A) → ℕ → List A

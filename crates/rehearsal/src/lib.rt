@@ -24,10 +24,16 @@ pub use scripts::rehearse;
 pub use steps::make_share;
 pub use steps::perform;
 
+// A share in an array that has room for the longest one: its bytes are the first `length`.
+pub struct Share {
+    pub bytes: [u8; limits::LONGEST_SHARE],
+    pub length: usize,
+}
+
 // A kept share and the switch that it is for; an empty place has a switch past the last one.
 pub struct Place {
     pub switch: u8,
-    pub share: [u8; message::layout::SHARE_LENGTH],
+    pub share: Share,
 }
 
 // A world: the number of controllers, the switches, the controllers, and the places for kept shares.
@@ -81,10 +87,10 @@ pub struct Moved {
     pub place: Place,
 }
 
-// A share made: 0 and its bytes, or the number of the question that refuses it.
+// A share made: 0 and its bytes, or the number of the question that refuses it and no bytes.
 pub struct Made {
     pub answer: u8,
-    pub share: [u8; message::layout::SHARE_LENGTH],
+    pub share: Share,
 }
 
 // What is printed of a record: its ordinal, the answer and the figure; ordinal 0 for a fault before the script.

@@ -4,6 +4,8 @@ pub(crate) const SWITCHES: usize = 16;
 pub(crate) const CONTROLLERS: usize = 16;
 // Places for kept shares.
 pub(crate) const PLACES: usize = 64;
+// The longest share, in bytes.
+pub(crate) const LONGEST_SHARE: usize = message::layout::SHARE_LENGTH;
 // The key stores of both ends have room for sixteen keys.
 pub(crate) const KEYS: usize = 16 * message::keys::LENGTH;
 // The longest script, in bytes.

@@ -3,6 +3,7 @@ ghost use mathlib.Core.Path.{_≡_};
 ghost use Prim.Native.Nat.{_≤_};
 ghost use lib.ListN.{length};
 ghost use Rattle.controller.specs.Changes.{meaning};
+ghost use Rattle.rehearsal.specs.Worlds.{bytesOf};
 ghost use Rattle.rehearsal.specs.Steps.{delivered, shareMade, sent, reported, kept};
 ghost use Rattle.rehearsal.specs.Steps.{byController, bySwitch, byPlace, unmoved, carriedOut, performed};
 use crate::Kind;
@@ -10,8 +11,11 @@ use crate::Made;
 use crate::Moved;
 use crate::Place;
 use crate::Record;
+use crate::Share;
 use crate::keys::controller_keys;
 use crate::keys::switch_keys;
+use crate::limits;
+use crate::worlds::no_share;
 use controller::Controller;
 use controller::Held;
 use switch::Switch;
@@ -26,15 +30,35 @@ fn deliver(n: u8, s: Switch, switch: u8, bytes: &[u8]) -> switch::Reply
     switch::receive(s, &keys[..used], bytes)
 }
 
-// The current share of a controller for a switch.
+// A share delivered to a switch.
+fn deliver_share(n: u8, s: Switch, switch: u8, share: Share) -> switch::Reply
+    requires { ⌜ n ≤ 16 ⌝ }
+    ensures { λ r. ⌜ r ≡ delivered n s switch (bytesOf share) ⌝ }
+{
+    let bytes = share.bytes;
+    deliver(n, s, switch, lists::front(&bytes, share.length))
+}
+
+// The current share of a controller for a switch; all shares have one length.
 pub fn make_share(c: Controller, controller: u8, switch: u8) -> Made
     ensures { λ r. ⌜ r ≡ shareMade c controller switch ⌝ }
 {
     let keys = controller_keys(controller);
-    let mut share = [0u8; message::layout::SHARE_LENGTH];
-    let r = controller::write_share(c, &keys, switch, &mut share, 0);
+    let mut bytes = [0u8; limits::LONGEST_SHARE];
+    let r = controller::write_share(c, &keys, switch, &mut bytes, 0);
+    if r.answer != answer::DONE {
+        let none = no_share();
+        return Made {
+            answer: r.answer,
+            share: none,
+        };
+    }
+    let share = Share {
+        bytes: bytes,
+        length: message::layout::SHARE_LENGTH,
+    };
     Made {
-        answer: r.answer,
+        answer: answer::DONE,
         share: share,
     }
 }
@@ -52,7 +76,7 @@ fn send(n: u8, c: Controller, s: Switch, controller: u8, switch: u8) -> switch::
         };
     }
     let share = made.share;
-    deliver(n, s, switch, &share)
+    deliver_share(n, s, switch, share)
 }
 
 // An acknowledgement made and delivered.
@@ -189,7 +213,7 @@ pub(crate) fn carry_out(
         }
         Kind::Deliver => {
             let share = place.share;
-            let reply = deliver(n, s, place.switch, &share);
+            let reply = deliver_share(n, s, place.switch, share);
             by_switch(c, s, place, reply)
         }
     }

@@ -2,8 +2,10 @@
 ghost use mathlib.Core.Path.{_≡_};
 ghost use Rattle.switch.specs.States as switches;
 ghost use Rattle.controller.specs.States as controllers;
-ghost use Rattle.rehearsal.specs.Worlds.{each, emptyPlace, worldOf};
+ghost use mathlib.Core.List.{[]};
+ghost use Rattle.rehearsal.specs.Worlds.{stored, each, emptyPlace, worldOf};
 use crate::Place;
+use crate::Share;
 use crate::World;
 use crate::limits;
 use controller::Controller;
@@ -42,12 +44,23 @@ fn controllers_of(n: u8, p: Playbook) -> [Controller; limits::CONTROLLERS]
     out
 }
 
+// No bytes.
+pub(crate) fn no_share() -> Share
+    ensures { λ r. ⌜ r ≡ stored [] ⌝ }
+{
+    Share {
+        bytes: [0u8; limits::LONGEST_SHARE],
+        length: 0,
+    }
+}
+
 pub(crate) fn empty_place() -> Place
     ensures { λ r. ⌜ r ≡ emptyPlace ⌝ }
 {
+    let share = no_share();
     Place {
         switch: 16,
-        share: [0u8; message::layout::SHARE_LENGTH],
+        share: share,
     }
 }
 

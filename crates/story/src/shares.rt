@@ -3,8 +3,9 @@ ghost use Prim.Native.Nat.{_≤_};
 use controller::Controller;
 use flow::Rule;
 use lists::behind;
-use lists::byte_at;
-use message::layout;
+use lists::front;
+use message::End;
+use message::Message;
 use notation::Giver;
 use rehearsal::Kind;
 use rehearsal::Place;
@@ -31,27 +32,46 @@ pub(crate) fn no_share() -> Share {
     }
 }
 
-// The share in a message's bytes, and the pair whose key gives it its tag.
-fn share_in(b: &[u8], giver: Giver) -> Share {
-    if byte_at(b, 0) != layout::SHARE {
-        return no_share();
+// The share that bytes are at a switch, and the pair whose key gives it its tag.
+fn share_in(bytes: &[u8], giver: Giver) -> Share {
+    match message::read(End::Switch, bytes) {
+        Message::Event {
+            switch: _,
+            controller: _,
+            serial: _,
+            cause: _,
+        } => no_share(),
+        Message::Share {
+            controller,
+            switch: _,
+            number,
+            rule,
+        } => Share {
+            made: true,
+            sender: controller,
+            number: number,
+            rule: rule,
+            giver: giver,
+        },
+        Message::Acknowledgement {
+            switch: _,
+            controller: _,
+            number: _,
+        } => no_share(),
+        Message::Refused(_) => no_share(),
     }
-    let number = lists::u32_of(byte_at(b, 3), byte_at(b, 4), byte_at(b, 5), byte_at(b, 6));
-    let prefix = lists::u32_of(byte_at(b, 7), byte_at(b, 8), byte_at(b, 9), byte_at(b, 10));
-    let port = lists::u16_of(byte_at(b, 12), byte_at(b, 13));
-    Share {
-        made: true,
-        sender: byte_at(b, 1),
-        number: number,
-        rule: flow::rule_of(prefix, byte_at(b, 11), port),
-        giver: giver,
-    }
+}
+
+// The share that a rehearsal made or kept.
+fn share_stored(stored: rehearsal::Share) -> Share {
+    let bytes = stored.bytes;
+    share_in(front(&bytes, stored.length), Giver::Nobody)
 }
 
 fn share_made(c: Controller, controller: u8, switch: u8) -> Share {
     let made = rehearsal::make_share(c, controller, switch);
     let share = made.share;
-    share_in(&share, Giver::Nobody)
+    share_stored(share)
 }
 
 // A made-up share: only here it is looked for whose key gives its tag.
@@ -70,7 +90,7 @@ pub(crate) fn share_of(c: Controller, place: Place, r: Record, bytes: &[u8]) -> 
         Kind::Keep => share_made(c, r.controller, r.switch),
         Kind::Deliver => {
             let share = place.share;
-            share_in(&share, Giver::Nobody)
+            share_stored(share)
         }
     }
 }

@@ -138,7 +138,9 @@ element-copy-out-s : tie.Need-element-copy-out-s Inv-loop μ-loop
 element-copy-out-s c = omega (arith, names (c .before .before .before .before) .1)
 
 add-carry-out : tie.Need-add-carry-out Inv-loop μ-loop
-add-carry-out c = omega (arith, fits (passed c .before))
+add-carry-out c =
+    let sized = passed c .before in
+    omega (arith, start sized .pre .1, fits sized)
 
 sub-carry-out : tie.Need-sub-carry-out Inv-loop μ-loop
 sub-carry-out c = omega (arith, fits (passed c .before))

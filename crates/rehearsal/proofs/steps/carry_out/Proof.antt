@@ -31,8 +31,8 @@ returns-5 c = rw (c .before .before .enum-told5 .given .1, ← c .before .make-s
 returns-6 : tie.Need-returns-6
 unfolding carriedOut
 returns-6 c =
-    let told = c .before .before .before .before in
-    rw (told .enum-told6 .given .1, ← c .before .deliver2 .ensures) (c .by-switch3 .ensures)
+    let told = c .before .before .before in
+    rw (told .enum-told6 .given .1, ← c .before .deliver-share .ensures) (c .by-switch3 .ensures)
 
 pub carry-out-spec : {M : Type 1} → statement M
 carry-out-spec =
@@ -41,5 +41,5 @@ carry-out-spec =
     (λ c κs. search needs) (λ c κs. search needs) (λ c. search needs) (λ c κs. search needs) (λ c κs. search needs)
     (λ c. search needs) (λ c. search needs) (λ c. search needs) (λ c. search needs) (λ c κs. search needs)
     (λ c κs. search needs) (λ c. search needs) (λ c κs. search needs) (λ c κs. search needs) (λ c. search needs)
-    (λ c. search needs) (λ c κs. search needs) (λ c κs. search needs) returns returns-2 returns-3 returns-4 returns-5
+    (λ c κs. search needs) (λ c κs. search needs) returns returns-2 returns-3 returns-4 returns-5
     returns-6)

@@ -1,4 +1,4 @@
--- `send` meets its contract: the branch decides whether the share was made. Assumes nothing.
+-- `send` meets its contract: the branch decides whether the share was made.
 use native.Mathlib.Omega.{arith}
 use borrow.Author.Needs.{needs}
 use borrow.Author.Tests.{eq-eqb, ne-eqb}
@@ -15,8 +15,8 @@ returns c =
 returns-2 : tie.Need-returns-2
 unfolding sent
 returns-2 c =
-    let made = c .before .before .before .before .before .make-share in
-    rw (← made .ensures, eq-eqb (made .result .answer) 0 (omega arith)) (c .deliver .ensures)
+    let made = c .before .before .before .before .make-share in
+    rw (← made .ensures, eq-eqb (made .result .answer) 0 (omega arith)) (c .deliver-share .ensures)
 
 pub send-spec : {M : Type 1} → statement M
-send-spec = tie.close (tie.spec (λ c κs. search needs) returns (λ c. search needs) (λ c κs. search needs) returns-2)
+send-spec = tie.close (tie.spec (λ c κs. search needs) returns (λ c κs. search needs) returns-2)
