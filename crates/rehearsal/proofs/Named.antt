@@ -6,9 +6,11 @@ use mathlib.Core.List.{List}
 use Prim.Native.Nat.{ℕ}
 use borrow.Author.Tests.{ne-eqb}
 use lib.Seq.{set-getD}
-use Rattle.rehearsal.specs.Steps.{carriedOut}
+use Rattle.rehearsal.specs.Steps.{kept, carriedOut}
 use Rattle.rehearsal.specs.Effects.{carriedIn, worldAfter}
 use Rattle.rehearsal.specs.declared.Kind.the-variants.{Decide, Send, Report, Raw, Keep, Deliver}
+use Rattle.rehearsal.specs.declared.Made.{Made}
+use Rattle.rehearsal.specs.declared.Place.{Place}
 use Rattle.rehearsal.specs.declared.Record.{Record}
 use Rattle.rehearsal.specs.declared.World.{World}
 
@@ -21,6 +23,10 @@ OnlySwitch w v = (v .controllers ≡ w .controllers) × (v .places ≡ w .places
 
 abbrev pub OnlyPlace : World → World → Type 0
 OnlyPlace w v = (v .controllers ≡ w .controllers) × (v .switches ≡ w .switches)
+
+-- a share that was not made leaves the place as it was
+pub kept-refused : (m : Made) (to : ℕ) (p : Place) → (m .answer ≡ 0 → ⊥) → kept m to p ≡ p
+kept-refused m to p refused = rw (ne-eqb (m .answer) 0 refused)
 
 module _ (w : World) (r : Record) (bytes : List ℕ) where
   pub decide-alters : r .kind ≡ Decide → OnlyController w (worldAfter w r bytes)

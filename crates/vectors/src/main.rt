@@ -1,7 +1,7 @@
 // Prints SHA-256, HMAC and tags of messages whose right values are known, for comparison with the file stdout.
 // The HMACs and tags are those of RFC 4231, 4.2 to 4.8 (of case 5 the first 16 bytes, as the RFC has it), the first two
-// digests those of FIPS 180-4's examples. Each of them, and the digests at the edges of the padding, was computed anew
-// with OpenSSL 3 through Python's hashlib when the file was written, and is the same there.
+// digests those of FIPS 180-4's examples. OpenSSL 3 and Python's hashlib and hmac give the same, and they alone gave the
+// digests at the edges of the padding and the HMACs with a key of one block and of one byte more.
 use libc::STDOUT_FILENO;
 
 fn wide(b: u8) -> u64 {
@@ -102,13 +102,17 @@ fn macs() {
         &[0xaau8; 131],
         b"This is a test using a larger than block-size key and a larger than block-size data. The key needs to be hashed before being used by the HMAC algorithm.",
     );
+    print_both(&[0xaau8; 64], b"Hi There");
+    print_both(&[0xaau8; 65], b"Hi There");
 }
 
-// Case 5's tag, and four that differ from it: in the first bit, in the last bit, by a byte missing and by one more.
+// Case 5's tag, and five that differ from it: in the first bit, in the last bit, in the first bit of two bytes, by a
+// byte missing and by one more.
 fn comparisons() {
     print_case_5(b"\xa3\xb6\x16\x74\x73\x10\x0e\xe0\x6e\x0c\x79\x6c\x29\x55\x55\x2b");
     print_case_5(b"\x23\xb6\x16\x74\x73\x10\x0e\xe0\x6e\x0c\x79\x6c\x29\x55\x55\x2b");
     print_case_5(b"\xa3\xb6\x16\x74\x73\x10\x0e\xe0\x6e\x0c\x79\x6c\x29\x55\x55\x2a");
+    print_case_5(b"\x23\x36\x16\x74\x73\x10\x0e\xe0\x6e\x0c\x79\x6c\x29\x55\x55\x2b");
     print_case_5(b"\xa3\xb6\x16\x74\x73\x10\x0e\xe0\x6e\x0c\x79\x6c\x29\x55\x55");
     print_case_5(b"\xa3\xb6\x16\x74\x73\x10\x0e\xe0\x6e\x0c\x79\x6c\x29\x55\x55\x2b\xfa");
 }
