@@ -1,5 +1,5 @@
 -- The scan for the ready change of a switch. Numbers rise, so of the changes on a switch only the first can be ready,
--- and it waits just for those before it of its decision and flow. Assumes nothing.
+-- and it waits for exactly those before it that it is tied to.
 use mathlib.Core.Path.{_≡_, refl, sym, _∙_}
 use mathlib.Core.Bool.{Bool, true, false, not}
 use mathlib.Core.List.{List}
@@ -9,14 +9,14 @@ use native.Mathlib.Omega.{arith}
 use lib.Dec.{eqb}
 use lib.ListN.{length, getD, take, length-take}
 use lib.Seq.{take-suc, take-take, getD-take, length-take-le}
-use borrow.Author.Tests.{eq-eqb, ne-eqb, eqb-true, not-true, not-false}
+use borrow.Author.Tests.{eq-eqb, ne-eqb, not-true, not-false}
 use Rattle.answer.specs.Ask.{pick}
-use Rattle.answer.proofs.Bools.{by-bool, by-eq, by-le, tf, and-join, and-parts}
+use Rattle.answer.proofs.Bools.{by-bool, by-eq, by-le, tf}
 use Rattle.lists.specs.Arrays.{every}
 use Rattle.lists.specs.Rising.{risingFrom}
 use Rattle.lists.proofs.Tails.{every-at, every-fails, every-snoc}
 use Rattle.controller.specs.Changes.{emptyUndone, numbersOf}
-use Rattle.controller.specs.Readiness.{sameFlow, isReady, readyOf}
+use Rattle.controller.specs.Readiness.{ties, isReady, readyOf}
 use Rattle.controller.specs.declared.Ready.the-variants.{Nothing, Change}
 use Rattle.controller.specs.declared.Undone.{Undone}
 use Rattle.controller.proofs.Waiting.{undoneAt, ready-free, Readied, ready-sound, by-ready}
@@ -54,26 +54,24 @@ module _ (s : ℕ) (us : List Undone) (rising : risingFrom 0 (numbersOf us) ≡ 
   earlier : (j : ℕ) → j < i → undoneAt us j .switch ≡ s → ⊥
   earlier j l = not-here s (undoneAt us j) (each-before (elsewhere s) other j l)
 
-  -- no change before it is of its decision and flow: it is ready
-  free : every (λ v. not (sameFlow it v)) (take i us) ≡ true → isReady us it ≡ true
+  -- it is tied to no change before it: it is ready
+  free : every (λ v. not (ties it v)) (take i us) ≡ true → isReady us it ≡ true
   free h =
       earlier-ready us rising i inside (λ j l. record {
         switch = λ e. earlier j l (e ∙ on);
-        flow = λ e f. tf (and-join (eqb (undoneAt us j .first) (it .first)) _ (eq-eqb _ _ e) (eq-eqb _ _ f))
-            (not-true _ (each-before (λ v. not (sameFlow it v)) h j l));
+        untied = λ q. tf q (not-true _ (each-before (λ v. not (ties it v)) h j l));
       })
 
-  -- one is: it waits, and so does every later change on the switch
-  waits : every (λ v. not (sameFlow it v)) (take i us) ≡ false → isReady us it ≡ true → ⊥
+  -- it is tied to one: it waits, and so does every later change on the switch
+  waits : every (λ v. not (ties it v)) (take i us) ≡ false → isReady us it ≡ true → ⊥
   waits h r =
-      let f = every-fails (λ v. not (sameFlow it v)) (take i us) emptyUndone h in
+      let f = every-fails (λ v. not (ties it v)) (take i us) emptyUndone h in
       let l : f .0 < i = omega (arith, f .1, length-take i us) in
-      let before : not (sameFlow it (undoneAt us (f .0))) ≡ false = rw (← getD-take i us (f .0) emptyUndone l) (f .2) in
-      let same = and-parts (eqb (undoneAt us (f .0) .first) (it .first)) _ (not-false _ before) in
+      let before : not (ties it (undoneAt us (f .0))) ≡ false = rw (← getD-take i us (f .0) emptyUndone l) (f .2) in
       let apart = ready-free us it r (f .0) (omega arith) (later-higher us rising (f .0) i l inside) in
-      apart .flow (eqb-true _ _ (same .0)) (eqb-true _ _ (same .1))
+      apart .untied (not-false _ before)
 
-  only : every (λ v. not (sameFlow it v)) (take i us) ≡ false → (v : Undone) → Readied s us v → ⊥
+  only : every (λ v. not (ties it v)) (take i us) ≡ false → (v : Undone) → Readied s us v → ⊥
   only h v r =
       let a = r .stands in
       by-le i (a .place)
@@ -83,9 +81,9 @@ module _ (s : ℕ) (us : List Undone) (rising : risingFrom 0 (numbersOf us) ≡ 
       (rw (a .there) (r .ready))))
       (λ l. earlier (a .place) l (rw (a .there) (r .on)))
 
-  first-ready : readyOf s us ≡ pick (every (λ v. not (sameFlow it v)) (take i us)) (Change it) Nothing
+  first-ready : readyOf s us ≡ pick (every (λ v. not (ties it v)) (take i us)) (Change it) Nothing
   first-ready =
-      by-bool (every (λ v. not (sameFlow it v)) (take i us))
+      by-bool (every (λ v. not (ties it v)) (take i us))
       (λ h. rw h (ready-found us rising s it
       (record { stands = record { place = i; inside = inside; there = refl }; on = on; ready = free h })))
       (λ h. rw h (by-ready (readyOf s us) (λ v e. absurd (only h v (ready-sound s us v e))) (λ e. e)))
@@ -100,7 +98,7 @@ one-more s us i z h other off =
 pub ready-at : (s : ℕ) (us : List Undone) (n i : ℕ) → i < n → n ≤ length us
     → risingFrom 0 (numbersOf (take n us)) ≡ true → every (elsewhere s) (take i us) ≡ true → undoneAt us i .switch ≡ s
     → readyOf s (take n us)
-    ≡ pick (every (λ v. not (sameFlow (undoneAt us i) v)) (take i us)) (Change (undoneAt us i)) Nothing
+    ≡ pick (every (λ v. not (ties (undoneAt us i) v)) (take i us)) (Change (undoneAt us i)) Nothing
 ready-at s us n i h k rises other on =
     let inside : i < length (take n us) = omega (arith, length-take-le n us k) in
     rw (← getD-take n us i emptyUndone h, ← take-take i n us (omega arith))

@@ -1,5 +1,5 @@
 -- What is ready among undone changes by rising number. A change is ready just where each lower-numbered one is on
--- another switch, and of another decision or flow; so a switch has at most one ready change, the one that is found, and
+-- another switch, and one that it is not tied to; so a switch has at most one ready change, the one that is found, and
 -- the lowest undone change is ready. Assumes nothing.
 use mathlib.Core.Path.{_≡_, refl, sym, ap, _∙_}
 use mathlib.Core.Bool.{true, false, not, _&&_}
@@ -15,7 +15,7 @@ use Rattle.lists.specs.Rising.{risingFrom}
 use Rattle.lists.proofs.Rising.{rising-places}
 use Rattle.lists.proofs.Tails.{every-at, every-all}
 use Rattle.controller.specs.Changes.{emptyUndone, undoneOf, numbersOf}
-use Rattle.controller.specs.Readiness.{sameFlow, sameSwitch, waitsFor, isReady, firstReady, readyOf, readyFor}
+use Rattle.controller.specs.Readiness.{sameSwitch, ties, waitsFor, isReady, firstReady, readyOf, readyFor}
 use Rattle.controller.specs.declared.Controller.{Controller}
 use Rattle.controller.specs.declared.Ready.{Ready}
 use Rattle.controller.specs.declared.Ready.the-variants.{Nothing, Change}
@@ -34,7 +34,7 @@ pub record Stands (us : List Undone) (u : Undone) : Type 0 where
 -- a change v that u need not wait for, whatever their numbers are; and u waits for none of a list
 pub record Apart (u v : Undone) : Type 0 where
   pub switch : v .switch ≡ u .switch → ⊥
-  pub flow : v .first ≡ u .first → v .flow ≡ u .flow → ⊥
+  pub untied : ties u v ≡ true → ⊥
 
 abbrev pub Free : List Undone → Undone → Type 0
 Free us u = (i : ℕ) → i < length us → undoneAt us i .number < u .number → Apart u (undoneAt us i)
@@ -44,8 +44,8 @@ module _ (u v : Undone) where
   apart h l =
       let never = not-both (ltb (v .number) (u .number)) _ (not-true (waitsFor u v) h) (lt-ltb _ _ l) in
       record {
-        switch = λ e. never (or-right (sameFlow u v) _ (eq-eqb _ _ e));
-        flow = λ e f. never (or-left _ _ (and-join (eqb (v .first) (u .first)) _ (eq-eqb _ _ e) (eq-eqb _ _ f)));
+        switch = λ e. never (or-left (sameSwitch u v) _ (eq-eqb _ _ e));
+        untied = λ q. never (or-right (sameSwitch u v) _ q);
       }
 
   waits-not : (v .number < u .number → Apart u v) → not (waitsFor u v) ≡ true
@@ -53,9 +53,7 @@ module _ (u v : Undone) where
       ap not (is-false (waitsFor u v) (λ w.
       let t = and-parts (ltb (v .number) (u .number)) _ w in
       let a = h (ltb-true _ _ (t .0)) in
-      by-or (sameFlow u v) (sameSwitch u v) (t .1)
-      (λ q. let p = and-parts (eqb (v .first) (u .first)) _ q in a .flow (eqb-true _ _ (p .0)) (eqb-true _ _ (p .1)))
-      (λ q. a .switch (eqb-true _ _ q))))
+      by-or (sameSwitch u v) (ties u v) (t .1) (λ q. a .switch (eqb-true _ _ q)) (a .untied)))
 
 module _ (us : List Undone) (u : Undone) where
   -- a change is ready just where it is free

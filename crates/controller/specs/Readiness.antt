@@ -11,17 +11,22 @@ use Rattle.controller.specs.declared.Ready.{Ready}
 use Rattle.controller.specs.declared.Ready.the-variants.{Nothing, Change}
 use Rattle.controller.specs.declared.Undone.{Undone}
 
--- whether two changes are of the same decision and flow, and whether they are on the same switch
-abbrev pub sameFlow : Undone → Undone → Bool
-sameFlow u v = eqb (v .first) (u .first) && eqb (v .flow) (u .flow)
-
+-- whether two changes are on the same switch
 abbrev pub sameSwitch : Undone → Undone → Bool
 sameSwitch u v = eqb (v .switch) (u .switch)
 
--- whether a change has to wait for another to be done: a lower-numbered one of the same decision and flow, or on the
--- same switch
+-- whether a change is tied to another, wherever that is: they are of the same decision and flow. Laws do not open it.
+unfoldable pub ties : Undone → Undone → Bool
+ties u v = eqb (v .first) (u .first) && eqb (v .flow) (u .flow)
+
+-- two changes of which the higher-numbered has to wait for the other
+abbrev pub related : Undone → Undone → Bool
+related u v = sameSwitch u v || ties u v
+
+-- whether a change has to wait for another to be done: a lower-numbered one on the same switch, or one that it is tied
+-- to
 abbrev pub waitsFor : Undone → Undone → Bool
-waitsFor u v = ltb (v .number) (u .number) && (sameFlow u v || sameSwitch u v)
+waitsFor u v = ltb (v .number) (u .number) && related u v
 
 -- an undone change is ready when it waits for none of the undone ones
 abbrev pub isReady : List Undone → Undone → Bool

@@ -6,13 +6,14 @@ ghost use lib.ListN.{take};
 ghost use Rattle.lists.specs.Arrays.{every};
 ghost use Rattle.lists.specs.Rising.{risingFrom};
 ghost use Rattle.controller.specs.Changes.{numbersOf};
-ghost use Rattle.controller.specs.Readiness.{sameFlow, readyOf};
+ghost use Rattle.controller.specs.Readiness.{ties, readyOf};
 use crate::Ready;
 use crate::Undone;
 use crate::limits;
 
-fn same_flow(u: Undone, v: Undone) -> bool
-    ensures { λ r. ⌜ r ≡ sameFlow u v ⌝ }
+// Whether a change is of the decision and flow of another.
+fn is_tied(u: Undone, v: Undone) -> bool
+    ensures { λ r. ⌜ r ≡ ties u v ⌝ }
 {
     if v.first == u.first {
         v.flow == u.flow
@@ -21,15 +22,15 @@ fn same_flow(u: Undone, v: Undone) -> bool
     }
 }
 
-// Whether none of the first n undone changes is of the decision and flow of a change.
-fn flow_free(changes: [Undone; limits::UNDONE], n: usize, u: Undone) -> bool
+// Whether a change is tied to none of the first n undone changes.
+fn untied(changes: [Undone; limits::UNDONE], n: usize, u: Undone) -> bool
     requires { ⌜ n ≤ 64 ⌝ }
-    ensures { λ r. ⌜ r ≡ every (λ v. not (sameFlow u v)) (take n changes) ⌝ }
+    ensures { λ r. ⌜ r ≡ every (λ v. not (ties u v)) (take n changes) ⌝ }
 {
     let mut i: usize = 0;
     while i < n {
         let v = changes[i];
-        if same_flow(u, v) {
+        if is_tied(u, v) {
             return false;
         }
         i += 1;
@@ -38,7 +39,7 @@ fn flow_free(changes: [Undone; limits::UNDONE], n: usize, u: Undone) -> bool
 }
 
 // The ready one of the first n undone changes on a switch. Numbers rise, so only the first change on the switch can be
-// ready, and it has to wait for those before it of its decision and flow.
+// ready, and it has to wait for those before it that it is tied to.
 pub(crate) fn ready_in(changes: [Undone; limits::UNDONE], n: usize, switch: u8) -> Ready
     requires { ⌜ (n ≤ 64) × (risingFrom 0 (numbersOf (take n changes)) ≡ true) ⌝ }
     ensures { λ r. ⌜ r ≡ readyOf switch (take n changes) ⌝ }
@@ -47,7 +48,7 @@ pub(crate) fn ready_in(changes: [Undone; limits::UNDONE], n: usize, switch: u8) 
     while i < n {
         let u = changes[i];
         if u.switch == switch {
-            if flow_free(changes, i, u) {
+            if untied(changes, i, u) {
                 return Ready::Change(u);
             }
             return Ready::Nothing;

@@ -8,14 +8,14 @@ use native.Mathlib.Omega.{arith}
 use lib.Dec.{ltb}
 use lib.ListN.{length, getD, length-append, List·getD-append}
 use borrow.Author.Tests.{ltb-true, lt-ltb, eq-eqb}
-use Rattle.answer.proofs.Bools.{and-join, and-parts, or-right}
+use Rattle.answer.proofs.Bools.{and-join, and-parts, or-left}
 use Rattle.flow.specs.declared.Table.{Table}
 use Rattle.flow.proofs.Actions.{rule-sound, rule-mine}
 use Rattle.playbook.specs.Printing.{InRange}
 use Rattle.playbook.specs.Storing.{storedOk}
 use Rattle.playbook.proofs.Kept.{read-stored}
 use Rattle.controller.specs.Changes.{emptyUndone}
-use Rattle.controller.specs.Readiness.{sameFlow}
+use Rattle.controller.specs.Readiness.{sameSwitch}
 use Rattle.controller.specs.declared.Undone.{Undone}
 use Rattle.protocol.proofs.Worlds.{Trusted, Agreed}
 use Rattle.protocol.proofs.Claims.{Laws}
@@ -64,7 +64,7 @@ module _ (S : Setting) (ok : Valid S) (ranged : InRange (playbook S)) where
         (ltb-true _ _ (u .0), ltb-true _ _ (u .1));
     in-turn = λ k j g positive low e.
         and-join _ _ (and-join _ _ (lt-ltb 0 j positive) (lt-ltb j k low))
-        (or-right (sameFlow (changeOf (agreed S) k) (changeOf (agreed S) j)) _ (eq-eqb _ _ e));
+        (or-left (sameSwitch (changeOf (agreed S) k) (changeOf (agreed S) j)) _ (eq-eqb _ _ e));
     same-sound = rule-sound;
     same-mine = rule-mine;
   }

@@ -15,14 +15,14 @@ use Rattle.flow.specs.declared.Rule.{Rule}
 use Rattle.flow.specs.declared.Table.{Table}
 use Rattle.playbook.specs.Printing.{InRange}
 use Rattle.controller.specs.Changes.{emptyUndone}
-use Rattle.controller.specs.Readiness.{waitsFor}
+use Rattle.controller.specs.Readiness.{related, waitsFor}
 use Rattle.protocol.proofs.Ends as protocol
 use Rattle.protocol.proofs.Claims.{Next, Lawful, tableAfter}
 use Rattle.protocol.proofs.Families.{upd-at}
 use Rattle.domain.specs.Settings.{Setting, Valid, playbook}
 use Rattle.domain.specs.Ideals.{Ideal, changeOf, skipsNone, accepts, feed, fed}
 use Rattle.domain.specs.Claim.{agreed}
-use Rattle.domain.proofs.View.{related, domainOf}
+use Rattle.domain.proofs.View.{domainOf}
 use Rattle.domain.proofs.Agreed.{change-fine}
 
 module _ (S : Setting) (v : Valid S) (ranged : InRange (playbook S)) where

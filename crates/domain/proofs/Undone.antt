@@ -15,7 +15,7 @@ use Rattle.flow.specs.declared.Rule.{Rule}
 use Rattle.flow.specs.declared.Table.{Table}
 use Rattle.playbook.specs.Printing.{InRange}
 use Rattle.controller.specs.Changes.{emptyUndone, undoneOf, isUndone, stillUndone}
-use Rattle.controller.specs.Readiness.{waitsFor}
+use Rattle.controller.specs.Readiness.{related, waitsFor}
 use Rattle.controller.specs.declared.Controller.{Controller}
 use Rattle.controller.specs.declared.Undone.{Undone}
 use Rattle.controller.proofs.Waiting.{undoneAt, Stands, Readied}
@@ -27,7 +27,7 @@ use Rattle.domain.specs.Settings.{Decision, Setting, Valid, playbook}
 use Rattle.domain.specs.Agreement.{agreedChanges}
 use Rattle.domain.specs.Ideals.{changeOf}
 use Rattle.domain.specs.Claim.{agreed}
-use Rattle.domain.proofs.View.{related, domainOf, viewController}
+use Rattle.domain.proofs.View.{domainOf, viewController}
 use Rattle.domain.proofs.Agreed.{change-fine, beginning-few, beginning-is}
 use Rattle.domain.proofs.Ends.{ControllerFine}
 

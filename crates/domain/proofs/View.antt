@@ -1,7 +1,7 @@
 -- A setting as a domain of the protocol, a run as a world of it, and a call of the run as the protocol's. Here nothing
 -- is claimed.
 use mathlib.Core.Path.{_≡_}
-use mathlib.Core.Bool.{Bool, true, _&&_, _||_}
+use mathlib.Core.Bool.{Bool, true, _&&_}
 use mathlib.Core.List.{List, [], _∷_}
 use Prim.Native.Nat.{ℕ}
 use lib.Dec.{ltb, eqb}
@@ -26,12 +26,11 @@ use Rattle.switch.specs.declared.Reply.{Reply}
 use Rattle.switch.specs.declared.Slot.{Slot}
 use Rattle.switch.specs.declared.Switch.{Switch}
 use Rattle.controller.specs.Acknowledgements.{acknowledgedOf}
-use Rattle.controller.specs.Readiness.{sameFlow, sameSwitch}
+use Rattle.controller.specs.Readiness.{related}
 use Rattle.controller.specs.Decisions.{decidedBy}
 use Rattle.controller.specs.Writing.{shareFor, shareWritten}
 use Rattle.controller.specs.Calls as controller-calls
 use Rattle.controller.specs.declared.Controller.{Controller}
-use Rattle.controller.specs.declared.Undone.{Undone}
 use Rattle.protocol.proofs.Ends as protocol
 use Rattle.protocol.proofs.Worlds as protocol-worlds
 use Rattle.protocol.proofs.Worlds.{World}
@@ -39,10 +38,6 @@ use Rattle.domain.specs.Settings.{Setting, switchKeys, controllerKeys}
 use Rattle.domain.specs.Calls.{Call, atSwitch, atController, Done, Run, step}
 use Rattle.domain.specs.Ideals.{changeOf}
 use Rattle.domain.specs.Claim.{agreed}
-
--- two changes of which the higher has to wait for the lower
-abbrev pub related : Undone → Undone → Bool
-related u v = sameFlow u v || sameSwitch u v
 
 -- the agreed changes by number, rules as contents, flow tables as tables, every controller a member
 abbrev pub domainOf : Setting → protocol.Domain Rule Table

@@ -18,6 +18,7 @@ use Rattle.flow.specs.Tables.{tableOf}
 use Rattle.flow.specs.Changes.{setEntry}
 use Rattle.flow.specs.declared.Table.{Table}
 use Rattle.controller.specs.Changes.{numbered}
+use Rattle.controller.specs.Readiness.{ties}
 use Rattle.protocol.specs.Families.{upd}
 use Rattle.protocol.specs.Runs.{run}
 use Rattle.protocol.proofs.Runs.{run-append}
@@ -229,15 +230,15 @@ module _ (k : ℕ) where
       by-eq k 1 (λ e. one e (rw e at h)) (λ other. let e : k ≡ 2 = omega arith in two e (rw e at h))
 
   first-accepted : accepts changes (fed changes []) k ≡ true → k ≡ 1
-  unfolding fed among everyTail
+  unfolding fed among everyTail ties
   first-accepted h = by-accepted [] h (λ e y. e) (λ e y. tf y refl)
 
   second-accepted : accepts changes (fed changes (1 ∷ [])) k ≡ true → k ≡ 2
-  unfolding fed among everyTail
+  unfolding fed among everyTail ties
   second-accepted h = by-accepted (1 ∷ []) h (λ e y. tf y refl) (λ e y. e)
 
   none-accepted : accepts changes (fed changes (2 ∷ 1 ∷ [])) k ≡ true → ⊥
-  unfolding fed among everyTail
+  unfolding fed among everyTail ties
   none-accepted h = by-accepted (2 ∷ 1 ∷ []) h (λ e y. tf y refl) (λ e y. tf y refl)
 
 orderly : (ks : List ℕ) → fed changes ks .refused ≡ [] → (ks ≡ []) ⊎ ((ks ≡ 1 ∷ []) ⊎ (ks ≡ 2 ∷ 1 ∷ []))
@@ -266,6 +267,6 @@ all-made =
 
 pub tables-made : (after whole-evening .switches 2 .table ≡ tableBy 3)
     × (after whole-evening .switches 5 .table ≡ tableBy 2)
-unfolding fed among everyTail upd setEntry pad
+unfolding fed among everyTail upd setEntry pad ties
 tables-made =
     (safe .tables 2 (omega arith) ∙ rw (all-made, agreed-are), safe .tables 5 (omega arith) ∙ rw (all-made, agreed-are))

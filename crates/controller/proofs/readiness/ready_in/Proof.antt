@@ -25,18 +25,18 @@ unfolding everyTail
 loop-holds c = (omega arith, refl)
 
 -- the i-th change is the first on the switch
-first : (c : tie.After-flow-free Inv-loop μ-loop)
+first : (c : tie.After-untied Inv-loop μ-loop)
     → let at = c .before .before .before .before .before in
     let a = at .before .args in
     readyOf (a .switch) (take (a .n) (a .t1))
-    ≡ pick (c .flow-free .result) (Change (getD (a .t1) (at .loop .i) emptyUndone)) Nothing
+    ≡ pick (c .untied .result) (Change (getD (a .t1) (at .loop .i) emptyUndone)) Nothing
 first c =
     let at = c .before .before .before .before .before in
     let a = at .before .args in
     let long : length (a .t1) ≡ 64 = search needs in
     ready-at (a .switch) (a .t1) (a .n) (at .loop .i) (omega arith) (omega arith) (at .before .pre .1)
     (at .loop .inv .1) (c .before .if1 .taken)
-    ∙ rw (c .flow-free .ensures)
+    ∙ rw (c .untied .ensures)
 
 returns : tie.Need-returns Inv-loop μ-loop
 returns c = sym (first (c .before) ∙ rw (c .if2 .taken))
