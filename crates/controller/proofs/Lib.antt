@@ -10,6 +10,8 @@ pub mod Moves
 pub mod Kept
 pub mod Effects
 pub mod Sent
+pub mod Holding
+pub mod Remade
 mod Places
 mod Planned
 mod Scanning
