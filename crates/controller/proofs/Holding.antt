@@ -19,7 +19,7 @@ use Rattle.controller.specs.States.{setupOf, controllerOk}
 use Rattle.controller.specs.Acknowledgements.{acknowledgedOf}
 use Rattle.controller.specs.Readiness.{waitsFor, isReady}
 use Rattle.controller.specs.Decisions.{givenBy}
-use Rattle.controller.specs.Calls.{Call, receives, decides, writesShare, replyTo, after}
+use Rattle.controller.specs.Calls.{decides, Call, receives, writesShare, manages, replyTo, after}
 use Rattle.controller.specs.declared.Controller.{Controller}
 use Rattle.controller.specs.declared.Reply.{Reply}
 use Rattle.controller.specs.declared.Undone.{Undone}
@@ -39,7 +39,7 @@ pub record Holds (c : Controller) (all : List Undone) : Type 0 where
 -- the changes that a call gives numbers to: those of a decision answered 0
 abbrev pub givenIn : ℕ → Controller → Call → List Undone
 givenIn answer c (receives bytes) = []
-givenIn answer c (decides s serial cause) = pick (eqb answer 0) (givenBy c (s, cause)) []
+givenIn answer c (manages (decides s serial cause)) = pick (eqb answer 0) (givenBy c (s, cause)) []
 givenIn answer c (writesShare s frame at) = []
 
 module _ (keys : List ℕ) where
@@ -60,7 +60,7 @@ module _ (keys : List ℕ) where
     }
 
     decision-holds : {s serial cause : ℕ} {r : Reply} → Decided c s serial cause r
-        → Holds (r .state) (all ++ givenIn (r .answer) c (decides s serial cause))
+        → Holds (r .state) (all ++ givenIn (r .answer) c (manages (decides s serial cause)))
     decision-holds (declined {k} l) = rw (ne-eqb k 0 (λ e. omega arith), append-nil) h
     decision-holds {s} {serial} {cause} (taken d) = record {
       limits = decided-kept c (h .limits) s serial cause (d .room);
@@ -69,7 +69,7 @@ module _ (keys : List ℕ) where
 
     pub call-holds : (x : Call) → Holds (replyTo keys c x .state) (all ++ givenIn (replyTo keys c x .answer) c x)
     call-holds (receives bytes) = rw append-nil (reception-holds (received c keys bytes))
-    call-holds (decides s serial cause) = decision-holds (decision c s serial cause)
+    call-holds (manages (decides s serial cause)) = decision-holds (decision c s serial cause)
     call-holds (writesShare s frame at) = rw (append-nil, written-state c keys s frame at) h
 
   -- a list of calls

@@ -10,7 +10,7 @@ use Rattle.message.specs.declared.End.the-variants as ends
 use Rattle.message.specs.declared.Message.the-variants.{Acknowledgement}
 use Rattle.controller.specs.Readiness.{readyFor}
 use Rattle.controller.specs.Writing.{shareFor}
-use Rattle.controller.specs.Calls.{Call, receives, decides, replyTo, after}
+use Rattle.controller.specs.Calls.{decides, Call, receives, manages, replyTo, after}
 use Rattle.controller.specs.declared.Controller.{Controller}
 use Rattle.controller.specs.declared.Reply.{Reply}
 use Rattle.controller.proofs.Moves.{Moves, stays, takes-acknowledgement, takes-decision, moves}
@@ -21,7 +21,7 @@ use Rattle.controller.proofs.Sent.{same-share}
 pub record Quiet (answer : ℕ) (x : Call) : Type 0 where
   pub no-acknowledgement : (bytes : List ℕ) (s to number : ℕ) → x ≡ receives bytes
       → decode ends.Controller bytes ≡ Acknowledgement s to number → ⊥
-  pub no-decision : (s serial cause : ℕ) → x ≡ decides s serial cause → answer ≡ 0 → ⊥
+  pub no-decision : (s serial cause : ℕ) → x ≡ manages (decides s serial cause) → answer ≡ 0 → ⊥
 
 module _ (keys : List ℕ) where
   -- such a call leaves the whole state
