@@ -21,21 +21,20 @@ use Rattle.protocol.proofs.Worlds.{Trusted, Agreed}
 use Rattle.protocol.proofs.Claims.{Laws}
 use Rattle.protocol.proofs.Families.{count-every}
 use Rattle.domain.specs.Settings.{Decision, Setting, Valid, playbook}
-use Rattle.domain.specs.Agreement.{agreedChanges}
 use Rattle.domain.specs.Ideals.{changeOf}
-use Rattle.domain.specs.Claim.{agreed}
+use Rattle.domain.specs.Claim.{changesOf, agreed}
 use Rattle.domain.proofs.Courses.{Fine, agreed-fine, agreed-adds}
 use Rattle.domain.proofs.View.{domainOf}
 
 -- the changes of a beginning of the agreed list, and those behind them
 module _ (S : Setting) (ds rest : List Decision) (e : S .agreed ≡ ds ++ rest) where
-  beginning-of : (more : List Undone) × (agreed S ≡ agreedChanges (playbook S) ds ++ more)
+  beginning-of : (more : List Undone) × (agreed S ≡ changesOf S ds ++ more)
   beginning-of =
-      let more = agreed-adds (playbook S) ds rest in (more .0, ap (agreedChanges (playbook S)) e ∙ more .1)
+      let more = agreed-adds (playbook S) ds rest in (more .0, ap (changesOf S) e ∙ more .1)
 
-  pub beginning-few : length (agreedChanges (playbook S) ds) ≤ length (agreed S)
+  pub beginning-few : length (changesOf S ds) ≤ length (agreed S)
   beginning-few =
-      omega (arith, ap length (beginning-of .1), length-append (agreedChanges (playbook S) ds) (beginning-of .0))
+      omega (arith, ap length (beginning-of .1), length-append (changesOf S ds) (beginning-of .0))
 
 -- a quorum is more than the strays, and no more than the others
 pub all-trusted : (S : Setting) → Valid S → (t : Table) → Trusted (domainOf S) t
@@ -71,11 +70,11 @@ module _ (S : Setting) (ok : Valid S) (ranged : InRange (playbook S)) where
 
   -- the changes of a beginning of the agreed list are the agreed ones with their numbers
   pub beginning-is : (ds rest : List Decision) → S .agreed ≡ ds ++ rest → (i : ℕ)
-      → i < length (agreedChanges (playbook S) ds)
-      → (getD (agreedChanges (playbook S) ds) i emptyUndone ≡ changeOf (agreed S) (i + 1)) × (i < length (agreed S))
+      → i < length (changesOf S ds)
+      → (getD (changesOf S ds) i emptyUndone ≡ changeOf (agreed S) (i + 1)) × (i < length (agreed S))
   beginning-is ds rest e i l =
       let all = beginning-of S ds rest e in
       let place : i + 1 - 1 ≡ i = omega arith in (
-        rw (place, all .1) (sym (List·getD-append (agreedChanges (playbook S) ds) (all .0) emptyUndone i l)),
+        rw (place, all .1) (sym (List·getD-append (changesOf S ds) (all .0) emptyUndone i l)),
         omega (arith, beginning-few S ds rest e),
       )

@@ -2,7 +2,7 @@
 -- keeps the rules has come along the agreed list as far as it was brought decisions: it holds those of the agreed
 -- changes so far that are not done. Assumes nothing.
 use mathlib.Core.Path.{_≡_, refl, sym, ap, _∙_}
-use mathlib.Core.Bool.{true}
+use mathlib.Core.Bool.{true, not}
 use mathlib.Core.List.{List, [], _∷_, _++_, append-nil}
 use Prim.Native.Nat.{ℕ, _+_, _≤_, _<_}
 use native.Mathlib.Omega.{arith}
@@ -181,8 +181,11 @@ module _ (S : Setting) where
       one-more : courseOf (ds ++ decision ∷ []) ≡ advance course decision
       one-more = along-append (beginning (playbook S)) ds (decision ∷ [])
 
+      other-brought : (q : ℕ) → (q ≡ 24 → ⊥) → isBrought q ≡ true
+      other-brought q other = ap not (ne-eqb q 24 other)
+
       brought-more : (q : ℕ) → (q ≡ 24 → ⊥) → decidedBy t s serial cause .answer ≡ q → more ≡ decision ∷ []
-      brought-more q other e = rw (e, eq-eqb c c refl, ne-eqb q 24 other)
+      brought-more q other e = rw (e, eq-eqb c c refl, other-brought q other)
 
       pub decision-after : ControllerFine c (ds ++ more) (decidedBy t s serial cause .state)
       decision-after =

@@ -25,7 +25,7 @@ use Rattle.domain.specs.Settings.{Decision, Setting, Valid, playbook, Ke
 use Rattle.domain.specs.Calls.{Call, Run, start, step}
 use Rattle.domain.specs.Premises.{brought, taken, Premises}
 use Rattle.domain.specs.Agreement.{agreedChanges}
-use Rattle.domain.specs.Claim.{agreed, answered, unmade, AllBrought, RoundsMake}
+use Rattle.domain.specs.Claim.{changesOf, agreed, answered, unmade, AllBrought, RoundsMake}
 use Rattle.domain.proofs.Courses.{agreed-fine, agreed-adds}
 use Rattle.domain.proofs.View.{domainOf, view}
 use Rattle.domain.proofs.Agreed.{stored, laws, beginning-few}
@@ -49,13 +49,13 @@ module _ (S : Setting) (v : Valid S) where
 
   module _ (before rest : List Call) (p : Premises S (before ++ rest)) (ds : List Decision)
       (least : (c : ℕ) → Keeps S c → (more : List Undone)
-      × (agreedChanges (playbook S) (brought c (run (step S) (start S) before .log))
-      ≡ agreedChanges (playbook S) ds ++ more)) where
+      × (changesOf S (brought c (run (step S) (start S) before .log))
+      ≡ changesOf S ds ++ more)) where
     abbrev r : Run
     r = run (step S) (start S) before
 
     abbrev changes : List Undone
-    changes = agreedChanges (playbook S) ds
+    changes = changesOf S ds
 
     all-fair : Fair S v (start S) (before ++ rest)
     all-fair = premises-fair S v (before ++ rest) p
@@ -72,7 +72,7 @@ module _ (S : Setting) (v : Valid S) where
     W : Walked S v r rest
     W = walked S v r R rest later
 
-    at-least : (c : ℕ) → Keeps S c → length changes ≤ length (agreedChanges (playbook S) (brought c (r .log)))
+    at-least : (c : ℕ) → Keeps S c → length changes ≤ length (changesOf S (brought c (r .log)))
     at-least c keeps =
         let m = least c keeps in omega (arith, ap length (m .1), length-append changes (m .0))
 
@@ -123,12 +123,12 @@ module _ (S : Setting) (v : Valid S) where
       all-made before rest p ds (λ c keeps.
       let m = least c keeps in
       let adds = agreed-adds (playbook S) ds (m .0) in
-      (adds .0, ap (agreedChanges (playbook S)) (m .1) ∙ adds .1))
+      (adds .0, ap (changesOf S) (m .1) ∙ adds .1))
 
   -- a controller's decisions taken have the changes of those brought: one refused by 12, 22 or 23 has none
   pub taken-changes : (calls : List Call) → Premises S calls → (c : ℕ) → Keeps S c →
       let log = run (step S) (start S) calls .log in
-      agreedChanges (playbook S) (brought c log) ≡ agreedChanges (playbook S) (taken c log)
+      changesOf S (brought c log) ≡ changesOf S (taken c log)
   unfolding agreedChanges
   taken-changes calls p c keeps = ap (λ a. a .changes) (run-reached S v calls p .took c keeps)
 
@@ -143,5 +143,5 @@ module _ (S : Setting) (v : Valid S) where
       let adds = agreed-adds (playbook S) ds (m .0) in (
         adds .0,
         taken-changes before (premises-before S before rest p) c keeps
-            ∙ ap (agreedChanges (playbook S)) (m .1) ∙ adds .1,
+            ∙ ap (changesOf S) (m .1) ∙ adds .1,
       ))

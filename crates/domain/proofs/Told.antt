@@ -19,12 +19,12 @@ use Rattle.protocol.specs.Runs.{run}
 use Rattle.protocol.proofs.Ends as protocol
 use Rattle.protocol.proofs.Worlds.{Agreed}
 use Rattle.protocol.proofs.Rounds.{acknowledged-after}
-use Rattle.domain.specs.Settings.{Setting, Valid, playbook, Keeps}
+use Rattle.domain.specs.Settings.{Setting, Valid, Keeps}
 use Rattle.domain.specs.Calls.{Call, atController, Run, step}
 use Rattle.domain.specs.Premises.{brought}
 use Rattle.domain.specs.Agreement.{agreedChanges}
 use Rattle.domain.specs.Rounds.{acknowledgementNow, Delivered}
-use Rattle.domain.specs.Claim.{answered}
+use Rattle.domain.specs.Claim.{changesOf, answered}
 use Rattle.domain.proofs.View.{domainOf, view}
 use Rattle.domain.proofs.Agreed.{laws, change-fine, beginning-is}
 use Rattle.domain.proofs.Reached.{Reached, Walked, ranged, seenAll}
@@ -58,12 +58,12 @@ module _ (S : Setting) (v : Valid S) (r : Run) (R : Reached S r) (xs : List Call
       (seenAll S v r xs) (W .allowed) (told-seen S v c (keeps .0) r R xs f told k g) in
       rw (← W .is) at known
 
-  pub none-held : ((u : Undone) → List·Memᴰ u (agreedChanges (playbook S) (brought c (after .log)))
+  pub none-held : ((u : Undone) → List·Memᴰ u (changesOf S (brought c (after .log)))
       → isAmong (u .number) (answered S r) ≡ true) → undoneOf (after .controllers c) ≡ []
   unfolding agreedChanges
   none-held made =
       let t = after .controllers c in
-      let us = agreedChanges (playbook S) (brought c (after .log)) in
+      let us = changesOf S (brought c (after .log)) in
       let b = f .begun c keeps in
       W .reached .controllers c keeps .follows .undone
       ∙ none-pass (isUndone (t .progress .acknowledged)) us emptyUndone (λ i l.

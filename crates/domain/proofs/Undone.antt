@@ -26,7 +26,7 @@ use Rattle.protocol.proofs.Worlds.{Agreed, Ready}
 use Rattle.domain.specs.Settings.{Decision, Setting, Valid, playbook}
 use Rattle.domain.specs.Agreement.{agreedChanges}
 use Rattle.domain.specs.Ideals.{changeOf}
-use Rattle.domain.specs.Claim.{agreed}
+use Rattle.domain.specs.Claim.{changesOf, agreed}
 use Rattle.domain.proofs.View.{domainOf, viewController}
 use Rattle.domain.proofs.Agreed.{change-fine, beginning-few, beginning-is}
 use Rattle.domain.proofs.Ends.{ControllerFine}
@@ -58,7 +58,7 @@ passing-from f (x ∷ l) j h =
 
 -- as many numbers are given as the decisions brought have changes, and no more than are agreed
 pub last-given : (S : Setting) (c : ℕ) (ds : List Decision) (t : Controller) → ControllerFine S c ds t
-    → t .progress .last ≡ length (agreedChanges (playbook S) ds)
+    → t .progress .last ≡ length (changesOf S ds)
 unfolding agreedChanges
 last-given S c ds t f = f .follows .last
 
@@ -75,7 +75,7 @@ module _ (S : Setting) (v : Valid S) (ranged : InRange (playbook S)) (c : ℕ) (
   us = undoneOf t
 
   abbrev sofar : List Undone
-  sofar = agreedChanges (playbook S) ds
+  sofar = changesOf S ds
 
   held-is : us ≡ stillUndone (t .progress .acknowledged) sofar
   unfolding agreedChanges

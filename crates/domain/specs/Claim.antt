@@ -58,8 +58,12 @@ pub record Carries (changes : List Undone) (s : ℕ) (bytes : List ℕ) : Type 0
   pub share : decode ends.Switch bytes ≡ Share controller s (change .number) (change .rule)
 
 module _ (S : Setting) where
+  -- the agreed changes of some decisions, and of the whole agreed list
+  abbrev pub changesOf : List Decision → List Undone
+  changesOf ds = agreedChanges (playbook S) ds
+
   abbrev pub agreed : List Undone
-  agreed = agreedChanges (playbook S) (S .agreed)
+  agreed = changesOf (S .agreed)
 
   -- the numbers in the shares answered 1, the latest first
   abbrev pub answered : Run → List ℕ
@@ -93,9 +97,9 @@ module _ (S : Setting) where
   -- all of these
   abbrev pub RoundsMake : List Decision → List Call → List Call → Type 0
   RoundsMake ds before rest =
-      Rounds (step S) (Round S) (unmade (agreedChanges (playbook S) ds) (run (step S) (start S) before))
+      Rounds (step S) (Round S) (unmade (changesOf ds) (run (step S) (start S) before))
       (run (step S) (start S) before) rest
-      → (u : Undone) → List·Memᴰ u (agreedChanges (playbook S) ds)
+      → (u : Undone) → List·Memᴰ u (changesOf ds)
       → isAmong (u .number) (answered (run (step S) (start S) (before ++ rest))) ≡ true
 
   pub record Demand3 : Type 0 where

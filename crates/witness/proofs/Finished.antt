@@ -19,12 +19,12 @@ use Rattle.controller.proofs.Full.{full-means}
 use Rattle.protocol.specs.Runs.{run, Every}
 use Rattle.protocol.proofs.Families.{upd-other}
 use Rattle.protocol.proofs.Runs.{run-append, every-join}
-use Rattle.domain.specs.Settings.{Decision, Setting, Valid, playbook, Keeps}
+use Rattle.domain.specs.Settings.{Decision, Setting, Valid, Keeps}
 use Rattle.domain.specs.Calls.{Call, atSwitch, atController, Run, start, step}
 use Rattle.domain.specs.Premises.{decisions, brought, Premises}
 use Rattle.domain.specs.Agreement.{agreedChanges}
 use Rattle.domain.specs.Rounds.{shareNow}
-use Rattle.domain.specs.Claim.{unmade}
+use Rattle.domain.specs.Claim.{changesOf, unmade}
 use Rattle.domain.proofs.Reached.{Begun, Reached, by-other, call-reached, run-reached}
 use Rattle.domain.proofs.Turns.{Fair, walked}
 use Rattle.domain.proofs.Told.{none-held}
@@ -211,7 +211,7 @@ module _ (S : Setting) where
       all-decided c keeps = ap (λ (r : Run). brought c (r .log)) then-is ∙ T .1 .done c keeps (omega arith)
 
       abbrev left : List Call
-      left = rounds S (unmade S (agreedChanges (playbook S) (ds ++ d ∷ [])) then) then
+      left = rounds S (unmade S (changesOf S (ds ++ d ∷ [])) then) then
 
       next-finished : Finished S (ds ++ d ∷ []) (decided ++ left)
       next-finished = record {

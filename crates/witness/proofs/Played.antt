@@ -24,13 +24,12 @@ use Rattle.controller.specs.declared.Undone.{Undone}
 use Rattle.controller.proofs.Sent.{share-there, ready-sent, share-bytes}
 use Rattle.protocol.specs.Runs.{run, Sometime, Rounds}
 use Rattle.protocol.proofs.Runs.{now, later}
-use Rattle.domain.specs.Settings.{Decision, Setting, Valid, playbook, Keeps, switchKeys, controllerKeys}
+use Rattle.domain.specs.Settings.{Decision, Setting, Valid, Keeps, switchKeys, controllerKeys}
 use Rattle.domain.specs.Calls.{Call, atSwitch, atController, Run, start, step}
 use Rattle.domain.specs.Premises.{SwitchWrote, ControllerWrote, InRun, Unforged, Premises}
 use Rattle.domain.specs.Premises as premises
-use Rattle.domain.specs.Agreement.{agreedChanges}
 use Rattle.domain.specs.Rounds.{acknowledgementNow, shareNow, Delivered, Round}
-use Rattle.domain.specs.Claim.{answered, unmade, AllBrought}
+use Rattle.domain.specs.Claim.{changesOf, answered, unmade, AllBrought}
 use Rattle.domain.proofs.Reached.{Begun, Reached, ranged, last-small, run-reached}
 use Rattle.domain.proofs.Wrote.{entry, logged, share-wrote, switch-wrote}
 use Rattle.domain.proofs.Delivered.{switch-key, controller-key, acknowledgement-answered}
@@ -213,9 +212,9 @@ module _ (S : Setting) (v : Valid S) where
 
     -- and so, where the controllers were brought the same decisions, to where all changes of these are made
     pub brought-to-end : (ds : List Decision) → AllBrought S ds reached
-        → (u : Undone) → List·Memᴰ u (agreedChanges (playbook S) ds)
+        → (u : Undone) → List·Memᴰ u (changesOf S ds)
         → isAmong (u .number) (answered S (run (step S) (start S)
-        (calls ++ rounds S (unmade S (agreedChanges (playbook S) ds) reached) reached))) ≡ true
+        (calls ++ rounds S (unmade S (changesOf S ds) reached) reached))) ≡ true
     brought-to-end ds same =
-        let k = unmade S (agreedChanges (playbook S) ds) reached in
+        let k = unmade S (changesOf S ds) reached in
         demand3 S v .live calls (rounds S k reached) (rounds-follow k) ds same (rounds-full k reached)
