@@ -1,7 +1,7 @@
 """Checks what docs/CLAIMS.md cites, and that it cites every must-fail edit.
 
-A name before a file's path stands in that file. A must-fail edit is cited as `crate/label` and is in the gate or among the
-mutants. No edit is left uncited, and no claim is left to mutants alone, which the gate does not try.
+A name before a file's path stands in that file. A must-fail edit is cited as `crate/label` and is in the gate or among
+the mutants. No edit is left uncited, and no claim is left to mutants alone, which the gate does not try.
 """
 import os
 import re

@@ -1,7 +1,8 @@
 """Checks the must-fail edits, those of the gate and those of tests/mutants: each still fits the crate that it edits.
 
-The rule is rt's: a `file:` line holds for the pairs after it, and each `old:` text stands once in its file, as the pairs
-before it have left that file. Beyond rt, an edit begins with its rule in words, alters something, and has one place.
+The rule is rt's: a `file:` line holds for the pairs after it, and each `old:` text stands once in its file, as the
+pairs before it have left that file. Beyond rt, an edit begins with its rule in words, alters something, and has one
+place.
 """
 import glob
 import os

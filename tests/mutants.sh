@@ -1,11 +1,12 @@
 #!/bin/sh
-# tests/mutants/run hands rt the edits that it is asked for and no other, passes rt's status on, and leaves the tree as it
-# is: it is run on a small tree with a stand-in for rt that prints the edits which it finds.
+# tests/mutants/run hands rt the edits that it is asked for and no other, passes rt's status on, and leaves the tree as
+# it is: it is run on a small tree with a stand-in for rt that prints the edits which it finds.
 set -u
 script=mutants.sh
 . tests/counting
 tree=$work/tree
-mkdir -p "$tree/bin" "$tree/crates/one/must-fail" "$tree/crates/two/must-fail" "$tree/tests/mutants/one" "$tree/tests/mutants/two"
+mkdir -p "$tree/bin" "$tree/crates/one/must-fail" "$tree/crates/two/must-fail" "$tree/tests/mutants/one" \
+    "$tree/tests/mutants/two" || exit 1
 cp tests/mutants/run "$tree/tests/mutants"
 printf 'one:\ntwo: one\n' >"$tree/crates.txt"
 touch "$tree/crates/one/must-fail/gate.edit" "$tree/crates/two/must-fail/gate.edit"

@@ -1,7 +1,7 @@
 // Prints SHA-256, HMAC and tags of messages whose right values are known, for comparison with the file stdout.
 // The HMACs and tags are those of RFC 4231, 4.2 to 4.8 (of case 5 the first 16 bytes, as the RFC has it), the first two
-// digests those of FIPS 180-4's examples. OpenSSL 3 and Python's hashlib and hmac give the same, and they alone gave the
-// digests at the edges of the padding and the HMACs with a key of one block and of one byte more.
+// digests those of FIPS 180-4's examples. OpenSSL 3 and Python's hashlib and hmac give the same, and they alone gave
+// the digests at the edges of the padding and the HMACs with a key of one block and of one byte more.
 use libc::STDOUT_FILENO;
 
 fn wide(b: u8) -> u64 {
