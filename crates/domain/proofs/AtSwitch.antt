@@ -27,9 +27,10 @@ use Rattle.switch.specs.States.{unchanged}
 use Rattle.switch.specs.Shares.{takeShare}
 use Rattle.switch.specs.Receiving.{receivedBy}
 use Rattle.switch.specs.Slots.{emptySlot}
+use Rattle.switch.specs.Writing.{Kind, event, acknowledgement}
 use Rattle.switch.specs.Writing.{eventFor, acknowledgementFor, eventWritten, acknowledgementWritten}
 use Rattle.switch.specs.Calls as switch-calls
-use Rattle.switch.specs.Calls.{Kind, event, acknowledgement, Managing, receives, writes, manages}
+use Rattle.switch.specs.Calls.{Managing, receives, writes, manages}
 use Rattle.switch.specs.declared.Switch.{Switch}
 use Rattle.switch.proofs.Moves.{Leaves, managed-leaves}
 use Rattle.switch.proofs.Sent.{written-state, sent-bytes, acknowledgement-sent}

@@ -21,7 +21,8 @@ use Rattle.message.specs.declared.Message.{Message}
 use Rattle.message.specs.declared.Message.the-variants.{Event, Share, Acknowledgement, Refused}
 use Rattle.switch.specs.Slots.{quorumOf}
 use Rattle.switch.specs.Shares.{slotOf}
-use Rattle.switch.specs.Calls.{receives, writes, manages, messageFor, messageWritten}
+use Rattle.switch.specs.Writing.{messageFor, messageWritten}
+use Rattle.switch.specs.Calls.{receives, writes, manages}
 use Rattle.switch.specs.declared.Reply.{Reply}
 use Rattle.switch.specs.declared.Slot.{Slot}
 use Rattle.switch.specs.declared.Switch.{Switch}

@@ -17,7 +17,8 @@ use Rattle.message.specs.declared.Message.the-variants.{Event, Share, Acknowled
 use Rattle.message.proofs.Ends.{decode-event, decode-share, decode-acknowledgement}
 use Rattle.message.proofs.Lengths.{encode-length}
 use Rattle.switch.specs.Calls as switch-calls
-use Rattle.switch.specs.Calls.{Kind, event, acknowledgement, writes, messageFor, isThere, messageWritten}
+use Rattle.switch.specs.Calls.{writes}
+use Rattle.switch.specs.Writing.{Kind, event, acknowledgement, messageFor, isThere, messageWritten}
 use Rattle.switch.specs.declared.Switch.{Switch}
 use Rattle.switch.proofs.Sent.{sent-bytes}
 use Rattle.controller.specs.Calls as controller-calls

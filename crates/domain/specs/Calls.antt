@@ -5,8 +5,9 @@ use mathlib.Core.List.{List, [], _∷_}
 use Rattle.lists.specs.Bytes.{part}
 use Rattle.message.specs.Writing.{lengthOf}
 use Rattle.switch.specs.States as switch
+use Rattle.switch.specs.Writing.{messageFor, messageWritten}
 use Rattle.switch.specs.Calls as switch-calls
-use Rattle.switch.specs.Calls.{receives, writes, manages, messageFor, messageWritten}
+use Rattle.switch.specs.Calls.{receives, writes, manages}
 use Rattle.switch.specs.declared.Switch.{Switch}
 use Rattle.controller.specs.States as controller
 use Rattle.controller.specs.Writing.{shareFor, shareWritten}

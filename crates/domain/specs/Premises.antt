@@ -13,7 +13,8 @@ use Rattle.message.specs.Reading.{decode}
 use Rattle.message.specs.declared.End.the-variants as ends
 use Rattle.message.specs.declared.Message.{Message}
 use Rattle.message.specs.declared.Message.the-variants.{Event, Share, Acknowledgement}
-use Rattle.switch.specs.Calls.{Kind, receives, writes, manages}
+use Rattle.switch.specs.Writing.{Kind}
+use Rattle.switch.specs.Calls.{receives, writes, manages}
 use Rattle.controller.specs.Calls.{decides, writesShare}
 use Rattle.controller.specs.Calls as controller
 use Rattle.protocol.specs.Runs.{run, Every}

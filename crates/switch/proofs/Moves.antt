@@ -16,8 +16,9 @@ use Rattle.switch.specs.Slots.{isQuorum}
 use Rattle.switch.specs.Shares.{stored, applied}
 use Rattle.switch.specs.Raising.{nextEvent, raisedBy}
 use Rattle.switch.specs.States.{switchOk}
+use Rattle.switch.specs.Writing.{messageFor, isThere}
 use Rattle.switch.specs.Calls.{Managing, raises, Call, receives, writes, manages}
-use Rattle.switch.specs.Calls.{messageFor, isThere, managedBy, numberIn, replyTo, after}
+use Rattle.switch.specs.Calls.{managedBy, numberIn, replyTo, after}
 use Rattle.switch.specs.declared.Reply.{Reply}
 use Rattle.switch.specs.declared.Slot.{Slot}
 use Rattle.switch.specs.declared.Switch.{Switch}

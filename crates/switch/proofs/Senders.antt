@@ -22,7 +22,8 @@ use Rattle.switch.specs.Slots.{quorumOf, emptySlot, controllers}
 use Rattle.switch.specs.States.{setupOf}
 use Rattle.switch.specs.Shares.{slotOf, stored}
 use Rattle.switch.specs.Receiving.{receivedBy}
-use Rattle.switch.specs.Calls.{Call, receives, writes, manages, messageFor, isThere, replyTo, after}
+use Rattle.switch.specs.Writing.{messageFor, isThere}
+use Rattle.switch.specs.Calls.{Call, receives, writes, manages, replyTo, after}
 use Rattle.switch.specs.declared.Reply.{Reply}
 use Rattle.switch.specs.declared.Slot.{Slot}
 use Rattle.switch.specs.declared.Switch.{Switch}

@@ -14,12 +14,26 @@ use Rattle.switch.specs.States.{unchanged, stateQuestions}
 use Rattle.switch.specs.declared.Reply.{Reply}
 use Rattle.switch.specs.declared.Switch.{Switch}
 
+-- the messages that a switch writes
+pub data Kind : Type 0 where
+  event : Kind
+  acknowledgement : Kind
+
 -- the current event and acknowledgement for a controller
 abbrev pub eventFor : Switch → ℕ → Message
 eventFor s c = Event (s .id) c (s .raised .serial) (s .raised .cause)
 
 abbrev pub acknowledgementFor : Switch → ℕ → Message
 acknowledgementFor s c = Acknowledgement (s .id) c (s .last)
+
+abbrev pub messageFor : Kind → Switch → ℕ → Message
+messageFor event s c = eventFor s c
+messageFor acknowledgement s c = acknowledgementFor s c
+
+-- whether there is one to send: an event once one was raised, an acknowledgement always
+abbrev pub isThere : Kind → Switch → Bool
+isThere event s = ltb 0 (s .raised .serial)
+isThere acknowledgement s = true
 
 -- the questions of a message for a controller: after 20 and 21 its receiver, its room, and whether there is one to send
 abbrev pub writeQuestions : Switch → List ℕ → ℕ → Message → Bool → List ℕ → ℕ → List Question
@@ -36,9 +50,12 @@ written s keys c m there frame at =
     reply (writeQuestions s keys c m there frame at) (λ k. (unchanged s k, frame))
     (unchanged s 0, placed (encode (keyAt keys c) m) frame at)
 
--- an event once one was raised; an acknowledgement always
+-- the current message of a kind
+abbrev pub messageWritten : Kind → Switch → List ℕ → ℕ → List ℕ → ℕ → Reply × List ℕ
+messageWritten kind s keys c frame at = written s keys c (messageFor kind s c) (isThere kind s) frame at
+
 abbrev pub eventWritten : Switch → List ℕ → ℕ → List ℕ → ℕ → Reply × List ℕ
-eventWritten s keys c frame at = written s keys c (eventFor s c) (ltb 0 (s .raised .serial)) frame at
+eventWritten = messageWritten event
 
 abbrev pub acknowledgementWritten : Switch → List ℕ → ℕ → List ℕ → ℕ → Reply × List ℕ
-acknowledgementWritten s keys c frame at = written s keys c (acknowledgementFor s c) true frame at
+acknowledgementWritten = messageWritten acknowledgement

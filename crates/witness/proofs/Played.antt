@@ -13,8 +13,8 @@ use Rattle.lists.specs.Bytes.{part}
 use Rattle.message.specs.Layout.{acknowledgementLength}
 use Rattle.message.specs.Writing.{encode, lengthOf, isMessage}
 use Rattle.message.proofs.Stores.{joined-length}
-use Rattle.switch.specs.Calls.{acknowledgement, receives, writes}
-use Rattle.switch.specs.Writing.{acknowledgementWritten}
+use Rattle.switch.specs.Calls.{receives, writes}
+use Rattle.switch.specs.Writing.{acknowledgement, acknowledgementWritten}
 use Rattle.switch.proofs.Sent.{sent-bytes}
 use Rattle.controller.specs.Calls.{writesShare}
 use Rattle.controller.specs.Calls as controller

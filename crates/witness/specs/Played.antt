@@ -7,7 +7,8 @@ use lib.ListN.{replicate}
 use Rattle.answer.specs.Ask.{pick}
 use Rattle.message.specs.Layout.{acknowledgementLength}
 use Rattle.message.specs.Writing.{encode, lengthOf, isMessage}
-use Rattle.switch.specs.Calls.{acknowledgement, receives, writes}
+use Rattle.switch.specs.Writing.{acknowledgement}
+use Rattle.switch.specs.Calls.{receives, writes}
 use Rattle.controller.specs.Calls.{writesShare}
 use Rattle.controller.specs.Calls as controller
 use Rattle.protocol.specs.Runs.{run}
