@@ -188,9 +188,7 @@ pub record DecisionTaken (c : Controller) (s serial cause : ℕ) (t : Controller
   pub others : (i : ℕ) → (i ≡ s → ⊥) → serialOf t i ≡ serialOf c i
   pub acknowledged : t .progress .acknowledged ≡ c .progress .acknowledged
   pub last : t .progress .last ≡ c .progress .last + length (changesFor (c .playbook) (s, cause))
-  pub undone : undoneOf t
-      ≡ undoneOf c
-      ++ stillUndone (c .progress .acknowledged) (numberedFrom (c .progress .last + 1) (c .progress .last + 1) (changesFor (c .playbook) (s, cause)))
+  pub undone : undoneOf t ≡ undoneOf c ++ stillUndone (c .progress .acknowledged) (givenBy c (s, cause))
   pub id : t .id ≡ c .id
   pub n : t .n ≡ c .n
   pub playbook : t .playbook ≡ c .playbook
@@ -202,7 +200,8 @@ module _ (c : Controller) (s serial cause : ℕ) where
     new = getD-set-same (c .progress .serials) s serial 0;
     others = λ i. getD-set-other (c .progress .serials) s i serial 0;
     acknowledged = refl;
-    last = ap (λ (k : ℕ). c .progress .last + k) (given-length (c .progress .last + 1) (c .progress .last + 1) (changesFor (c .playbook) (s, cause)));
+    last = ap (λ (k : ℕ). c .progress .last + k)
+        (given-length (c .progress .last + 1) (c .progress .last + 1) (changesFor (c .playbook) (s, cause)));
     undone = held-meaning (heldAfter c (s, cause)) (d .room);
     id = refl;
     n = refl;

@@ -92,7 +92,8 @@ module _ (keys : List ℕ) where
 
 module _ {c : Controller} {all : List Undone} (h : Holds c all) where
   -- what was given and is not held is done
-  pub not-held-done : (u : Undone) → Stands all u → (Stands (undoneOf c) u → ⊥) → u .number ≤ acknowledgedOf c (u .switch)
+  pub not-held-done : (u : Undone) → Stands all u → (Stands (undoneOf c) u → ⊥)
+      → u .number ≤ acknowledgedOf c (u .switch)
   not-held-done u given none =
       by-bool (isUndone (c .progress .acknowledged) u)
       (λ e. absurd (none (rw (h .undone) (stands-passing (isUndone (c .progress .acknowledged)) all u given e))))

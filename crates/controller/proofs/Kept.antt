@@ -111,8 +111,9 @@ module _ (c : Controller) (h : controllerOk c ≡ true) where
   pub held-rises : (t : Trigger) → risingFrom 0 (numbersOf (heldAfter c t)) ≡ true
   held-rises t =
       let w = within c h in
-      rising-on (c .progress .acknowledged) (c .progress .last) (undoneOf c) _ (w .each) (w .rising)
-      (rising-passing _ _ (c .progress .last) (givenBy c t) (given-rising (c .progress .last + 1) (c .progress .last) _))
+      let last = c .progress .last in
+      rising-on (c .progress .acknowledged) last (undoneOf c) _ (w .each) (w .rising)
+      (rising-passing _ _ last (givenBy c t) (given-rising (last + 1) last _))
 
   pub decided-kept : (s serial cause : ℕ) → length (heldAfter c (s, cause)) ≤ 64
       → controllerOk (decided c s serial cause) ≡ true
@@ -122,7 +123,8 @@ module _ (c : Controller) (h : controllerOk c ≡ true) where
       let top = c .progress .last + length (givenBy c (s, cause)) in
       held-kept c w (c .progress .acknowledged) (set (c .progress .serials) s serial) top (heldAfter c (s, cause)) few
       (every-append _ us _ ∙ and-join _ _
-      (fits-higher (c .progress .acknowledged) (c .progress .last) top us (omega arith) (w .each)) (given-each (s, cause)))
+      (fits-higher (c .progress .acknowledged) (c .progress .last) top us (omega arith) (w .each))
+      (given-each (s, cause)))
       (held-rises (s, cause))
 
 -- a state t that came of the state c: its setup is the same, and none of its numbers is lower

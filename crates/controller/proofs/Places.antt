@@ -92,5 +92,6 @@ only-empty u h =
 pub held-sound : (c : Controller) → Within c → length (c .progress .undone .changes) ≡ 64
     → c .progress .undone ≡ heldOf (undoneOf c)
 held-sound c w long =
-    let padded = as-padded undoneEmpty emptyUndone only-empty _ (c .progress .undone .changes) long (w .count) (w .unused) in
+    let places = c .progress .undone .changes in
+    let padded = as-padded undoneEmpty emptyUndone only-empty _ places long (w .count) (w .unused) in
     λ i. record { changes = padded .0 i; count = padded .1 i }

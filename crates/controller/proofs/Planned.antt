@@ -55,9 +55,12 @@ module _ (c : Controller) (s serial cause : ℕ) where
   module _ {q : Plan} (l : Listed (c .playbook) (s, cause) q) where
     -- a number for each change of the plan, done or not
     numbers : length (givenBy c (s, cause)) ≡ q .count
-    numbers = given-length (c .progress .last + 1) (c .progress .last + 1) (changesFor (c .playbook) (s, cause)) ∙ l .counted
+    numbers =
+        given-length (c .progress .last + 1) (c .progress .last + 1) (changesFor (c .playbook) (s, cause))
+        ∙ l .counted
 
-    numbers-left : c .progress .last + q .count ≤ 4294967295 → c .progress .last + length (givenBy c (s, cause)) ≤ 4294967295
+    numbers-left : c .progress .last + q .count ≤ 4294967295
+        → c .progress .last + length (givenBy c (s, cause)) ≤ 4294967295
     numbers-left h = omega (arith, numbers)
 
     pub plan-exhausts : 4294967295 < c .progress .last + q .count → PlanAsked (unchanged c 23)
@@ -70,12 +73,14 @@ module _ (c : Controller) (s serial cause : ℕ) where
         (e : h
         ≡ heldOf (undoneOf c
         ++ stillUndone (c .progress .acknowledged)
-        (numberedFrom (c .progress .last + 1) (c .progress .last + 1) (take (q .count) (drop (q .first) (c .playbook .changes)))))) where
+        (numberedFrom (c .progress .last + 1) (c .progress .last + 1)
+        (take (q .count) (drop (q .first) (c .playbook .changes)))))) where
       held : h ≡ heldOf (heldAfter c (s, cause))
       held =
           e
           ∙ ap (λ (cs : List Change). heldOf (undoneOf c
-          ++ stillUndone (c .progress .acknowledged) (numberedFrom (c .progress .last + 1) (c .progress .last + 1) cs))) (sym (l .changes))
+          ++ stillUndone (c .progress .acknowledged) (numberedFrom (c .progress .last + 1) (c .progress .last + 1) cs)))
+          (sym (l .changes))
 
       pub plan-full : 64 < h .count → PlanAsked (unchanged c 24)
       plan-full n =

@@ -1,5 +1,5 @@
--- Questions 20 and 21, the answer to the first at hand, and what they give where both are answered yes. For the functions
--- of receiving and writing. Assumes nothing.
+-- Questions 20 and 21, the answer to the first at hand, and what they give where both are answered yes. For the
+-- functions of receiving and writing.
 use mathlib.Core.Path.{_≡_, refl, ap, _∙_}
 use mathlib.Core.Bool.{Bool, true}
 use mathlib.Core.List.{[], _∷_}

@@ -34,8 +34,8 @@ pub struct Held {
     pub count: usize,
 }
 
-// The parts of a state that calls move: for each switch the highest number acknowledged and the last decided serial, the
-// last number given, and the undone changes.
+// The parts of a state that calls move: for each switch the highest number acknowledged and the last decided serial,
+// the last number given, and the undone changes.
 pub struct Progress {
     pub acknowledged: [u32; limits::PLACES],
     pub serials: [u32; limits::PLACES],
@@ -64,9 +64,9 @@ pub struct Reply {
     pub state: Controller,
 }
 
-// What a call does: its answer, what it offers, and the moving parts as they are afterwards. The rest of the state, most
-// of it the playbook, stays where it is; so each call puts the parts into its own state, since a function that did it
-// for them would copy the whole.
+// What a call does: its answer, what it offers, and the moving parts as they are afterwards. The rest of the state,
+// most of it the playbook, stays where it is; so each call puts the parts into its own state, since a function that did
+// it for them would copy the whole.
 pub(crate) struct Moved {
     pub answer: u8,
     pub offer: Offer,

@@ -218,7 +218,8 @@ module _ (S : Setting) (v : Valid S) (r : Run) (c : ℕ) (ds : List Decision)
     same-numbers : decidedBy t s serial cause .state .progress .acknowledged ≡ t .progress .acknowledged
     unfolding decidedBy
     same-numbers =
-        reply-keeps (λ (y : Reply). y .state .progress .acknowledged ≡ t .progress .acknowledged) _ _ _ (λ k. refl) (λ y. refl)
+        reply-keeps (λ (y : Reply). y .state .progress .acknowledged ≡ t .progress .acknowledged) _ _ _ (λ k. refl)
+        (λ y. refl)
 
     pub decision-seen : S .agreed ≡ after ++ rest
         → Seen S r (atController c (controller-calls.manages (controller-calls.decides s serial cause)))

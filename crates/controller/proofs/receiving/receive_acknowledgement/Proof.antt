@@ -1,5 +1,5 @@
--- `receive_acknowledgement` meets its contract: the branches answer questions 12 to 14, of which the first gives a known
--- sender, and whether it is a repeat.
+-- `receive_acknowledgement` meets its contract: the branches answer questions 12 to 14, of which the first gives a
+-- known sender, and whether it is a repeat.
 use mathlib.Core.Path.{_≡_, refl, sym, ap, _∙_}
 use Prim.Native.Nat.{_<_}
 use native.Mathlib.Omega.{arith}
