@@ -31,19 +31,26 @@ fn still_undone(h: Held, acknowledged: [u32; limits::PLACES]) -> Held
     out
 }
 
-// The moving parts with a number acknowledged by a switch.
-pub(crate) fn acknowledged_by(p: Progress, s: usize, number: u32) -> Progress
+// Answer 0, and the moving parts with a number acknowledged by a switch.
+pub(crate) fn acknowledged_by(p: Progress, s: usize, number: u32) -> Moved
     requires { ⌜ (s < 16) × (p .undone .count ≤ 64) ⌝ }
-    ensures { λ r. ⌜ r ≡ acknowledging p s number ⌝ }
+    ensures { λ r. ⌜ r ≡ record { answer = 0; offer = Offer.Nothing; progress = acknowledging p s number } ⌝ }
 {
     let undone = p.undone;
     let mut acknowledged = p.acknowledged;
     acknowledged[s] = number;
     let rest = still_undone(undone, acknowledged);
-    let mut next = p;
-    next.acknowledged = acknowledged;
-    next.undone = rest;
-    next
+    let serials = p.serials;
+    Moved {
+        answer: answer::DONE,
+        offer: Offer::Nothing,
+        progress: Progress {
+            acknowledged: acknowledged,
+            serials: serials,
+            last: p.last,
+            undone: rest,
+        },
+    }
 }
 
 // The moving parts as they are, and an event offered.

@@ -12,12 +12,14 @@ ghost use Rattle.controller.specs.Moving.{movedBy};
 use crate::Controller;
 use crate::Held;
 use crate::Moved;
+use crate::Offer;
+use crate::Progress;
 use crate::Reply;
 use crate::Undone;
 use crate::changes::is_undone;
 use crate::limits;
-use crate::states::answering;
 use crate::states::controller_ok;
+use crate::states::stays;
 use playbook::Change;
 
 // A plan's change with a number, of the decision with a first number.
@@ -76,25 +78,38 @@ fn take_decision(c: Controller, switch: u8, serial: u32, cause: u8) -> Moved
         ≡ reply (drop 3 (decisionQuestions c switch serial cause)) (unchanged c)
         (unchanged (decided c switch serial cause) 0) ⌝ }
 {
-    let book = c.playbook;
-    let p = c.progress;
-    let plan = playbook::plan_of(book, switch, cause);
-    let last = p.last as u64 + plan.count as u64;
+    let p = c.playbook;
+    let plan = playbook::plan_of(p, switch, cause);
+    let last = c.progress.last as u64 + plan.count as u64;
     if limits::NUMBERS < last {
-        return answering(p, answer::NUMBERS_EXHAUSTED);
+        return stays(c, answer::NUMBERS_EXHAUSTED);
     }
-    let undone = p.undone;
-    let acknowledged = p.acknowledged;
-    let listed = book.changes;
-    let held = with_plan(undone, acknowledged, listed, plan.first, plan.count, p.last);
-    let mut next = p;
-    next.serials[switch as usize] = serial;
-    next.last = last as u32;
-    next.undone = held;
+    let undone = c.progress.undone;
+    let acknowledged = c.progress.acknowledged;
+    let listed = p.changes;
+    let held = with_plan(
+        undone,
+        acknowledged,
+        listed,
+        plan.first,
+        plan.count,
+        c.progress.last,
+    );
+    let mut serials = c.progress.serials;
+    serials[switch as usize] = serial;
     if limits::UNDONE < held.count {
-        return answering(p, answer::TOO_MANY_UNDONE);
+        return stays(c, answer::TOO_MANY_UNDONE);
     }
-    answering(next, answer::DONE)
+    Moved {
+        answer: answer::DONE,
+        offer: Offer::Nothing,
+        progress: Progress {
+            acknowledged: acknowledged,
+            serials: serials,
+            last: last as u32,
+            undone: held,
+        },
+    }
 }
 
 // Questions 20, whose answer is given, 12 and 22, then those of the plan.
@@ -102,15 +117,15 @@ fn decision(c: Controller, ok: bool, switch: u8, serial: u32, cause: u8) -> Move
     requires { ⌜ ok ≡ controllerOk c ⌝ }
     ensures { λ r. ⌜ movedBy c r ≡ decidedBy c switch serial cause ⌝ }
 {
-    let p = c.progress;
     if !ok {
-        return answering(p, answer::LIMITS_BROKEN);
+        return stays(c, answer::LIMITS_BROKEN);
     }
     if limits::SWITCHES <= switch {
-        return answering(p, answer::UNKNOWN_ID);
+        return stays(c, answer::UNKNOWN_ID);
     }
-    if serial <= p.serials[switch as usize] {
-        return answering(p, answer::SERIAL_DECIDED);
+    let serials = c.progress.serials;
+    if serial <= serials[switch as usize] {
+        return stays(c, answer::SERIAL_DECIDED);
     }
     take_decision(c, switch, serial, cause)
 }

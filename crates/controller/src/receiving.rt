@@ -14,6 +14,7 @@ use crate::limits;
 use crate::states::answering;
 use crate::states::controller_ok;
 use crate::states::state_question;
+use crate::states::stays;
 use message::End;
 use message::Message;
 
@@ -63,8 +64,7 @@ fn receive_acknowledgement(
     if number <= p.acknowledged[s] {
         return answering(p, answer::REPEAT);
     }
-    let next = acknowledged_by(p, s, number);
-    answering(next, answer::DONE)
+    acknowledged_by(p, s, number)
 }
 
 // Questions 20, whose answer is given, 21, 10 and 11, then those of what was read.
@@ -72,10 +72,9 @@ fn receipt(c: Controller, ok: bool, keys: &[u8], bytes: &[u8]) -> Moved
     requires { ⌜ ok ≡ controllerOk c ⌝ }
     ensures { λ r. ⌜ movedBy c r ≡ receivedBy c (now (keys .entry)) (now (bytes .entry)) ⌝ }
 {
-    let p = c.progress;
     let k = state_question(ok, keys.len());
     if k != answer::DONE {
-        return answering(p, k);
+        return stays(c, k);
     }
     match message::read(End::Controller, bytes) {
         Message::Event {
@@ -89,13 +88,13 @@ fn receipt(c: Controller, ok: bool, keys: &[u8], bytes: &[u8]) -> Moved
             controller,
             number,
         } => receive_acknowledgement(c, keys, bytes, switch, controller, number),
-        Message::Refused(k) => answering(p, k),
+        Message::Refused(k) => stays(c, k),
         Message::Share {
             controller: _,
             switch: _,
             number: _,
             rule: _,
-        } => answering(p, answer::WRONG_KIND),
+        } => stays(c, answer::WRONG_KIND),
     }
 }
 

@@ -12,6 +12,7 @@ ghost use Rattle.message.specs.Keys.{keyLength};
 ghost use Rattle.controller.specs.Changes.{undoneEmpty, meaning, numbersOf};
 ghost use Rattle.controller.specs.States.{unchanged, inRange, fresh, setupOf};
 ghost use Rattle.controller.specs.States.{undoneOk, controllerOk};
+ghost use Rattle.controller.specs.Moving.{movedBy};
 use crate::Controller;
 use crate::Held;
 use crate::Moved;
@@ -40,6 +41,18 @@ fn replied(state: Controller, k: u8) -> Reply
 pub(crate) fn answering(p: Progress, k: u8) -> Moved
     ensures { λ r. ⌜ r ≡ record { answer = k; offer = Offer.Nothing; progress = p } ⌝ }
 {
+    Moved {
+        answer: k,
+        offer: Offer::Nothing,
+        progress: p,
+    }
+}
+
+// An answer, and the moving parts of a state as they are.
+pub(crate) fn stays(c: Controller, k: u8) -> Moved
+    ensures { λ r. ⌜ movedBy c r ≡ unchanged c k ⌝ }
+{
+    let p = c.progress;
     Moved {
         answer: k,
         offer: Offer::Nothing,

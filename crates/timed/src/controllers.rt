@@ -162,13 +162,12 @@ pub extern "C" fn timed_in_turn(
     sum
 }
 
-// The state with another serial decided for the last switch, so that no two calls in a row are at the same state: a
-// compiler might ask question 20 of it once for all turns.
-fn stirred(c: Controller, serial: u32) -> Controller {
-    let mut p = c.progress;
-    p.serials[15] = serial;
+// The state with another last number given in each turn, so that no two calls in a row are at the same state: a compiler
+// might ask question 20 of it once for all turns.
+fn stirred(c: Controller, turn: u32) -> Controller {
+    let last = 0xffff_ffff - turn;
     let mut next = c;
-    next.progress = p;
+    next.progress.last = last;
     next
 }
 

@@ -4,7 +4,7 @@ use Rattle.controller.proofs.acknowledgements.acknowledged_by.Statement
 use Rattle.controller.proofs.acknowledgements.acknowledged_by.Tie as tie
 
 returns : tie.Need-returns
-returns c = rw (c .still-undone .ensures)
+returns c = rw (c .before .still-undone .ensures)
 
 pub acknowledged-by-spec : {M : Type 1} → statement M
 acknowledged-by-spec =

@@ -8,7 +8,6 @@ use Rattle.answer.proofs.Asked.{all-yes, stopped}
 use Rattle.message.specs.declared.Message.{Message}
 use Rattle.controller.specs.States.{stateQuestions}
 use Rattle.controller.specs.Receiving.{arrived, receivedBy}
-use Rattle.controller.specs.Moving.{movedBy}
 use Rattle.controller.specs.declared.Reply.{Reply}
 use Rattle.controller.proofs.Steps.{state-asked, state-passed}
 use Rattle.controller.proofs.receiving.receipt.Statement.{statement}
@@ -16,22 +15,19 @@ use Rattle.controller.proofs.receiving.receipt.Tie as tie
 
 -- the answer to questions 20 and 21
 answer : (c : tie.After-state-question)
-    → let a = c .before .before .before .before .args in
+    → let a = c .before .before .before .args in
     c .state-question .result ≡ firstNo (stateQuestions (a .c) (length (a .keys .now)))
 answer c =
-    let s = c .before .before .before .before in
+    let s = c .before .before .before in
     state-asked (s .args .c) (length (s .args .keys .now)) (s .pre) (c .state-question .ensures)
 
 returns : tie.Need-returns
 unfolding receivedBy
-returns c =
-    let asking = c .before .before in
-    ap (movedBy (asking .before .before .before .before .args .c)) (c .answering .ensures)
-    ∙ stopped _ _ _ (answer asking) (λ e. omega arith)
+returns c = c .stays .ensures ∙ stopped _ _ _ (answer (c .before .before)) (λ e. omega arith)
 
 -- questions 20 and 21 answered yes
 ready : (c : tie.Else1)
-    → let a = c .before .before .before .before .before .args in
+    → let a = c .before .before .before .before .args in
     firstNo (stateQuestions (a .c) (length (a .keys .now))) ≡ 0
 ready c = sym (answer (c .before)) ∙ omega arith
 
@@ -41,18 +37,18 @@ arrives c m = let a = c .args in arrived (a .c) (a .keys .now) (a .bytes .now) m
 
 -- the bytes were read as a message
 read-as : (c : tie.After-read) {m : Message} → c .read .result ≡ m
-    → let s = c .before .before .before .before .before .before in
+    → let s = c .before .before .before .before .before in
     let a = s .args in
     arrives s m ≡ receivedBy (a .c) (a .keys .now) (a .bytes .now)
 unfolding receivedBy
 read-as c e =
-    let s = c .before .before .before .before .before .before in
+    let s = c .before .before .before .before .before in
     sym (all-yes _ _ _ refl (ready (c .before)) ∙ ap (arrives s) (sym (c .read .ensures) ∙ e))
 
 receive-acknowledgement-requires : tie.Need-receive-acknowledgement-requires
 receive-acknowledgement-requires c κs =
     let read = c .before .before .before in
-    let a = read .before .before .before .before .before .before .args in
+    let a = read .before .before .before .before .before .args in
     state-passed (a .c) (length (a .keys .now)) (ready (read .before)) .0
 
 returns-2 : tie.Need-returns-2
@@ -68,16 +64,12 @@ returns-3 c =
 returns-4 : tie.Need-returns-4
 returns-4 c =
     let arm = c .before .before in
-    let read = arm .before .before in
-    ap (movedBy (read .before .before .before .before .before .before .args .c)) (c .answering2 .ensures)
-    ∙ read-as read (arm .k .given .1)
+    c .stays2 .ensures ∙ read-as (arm .before .before) (arm .k .given .1)
 
 returns-5 : tie.Need-returns-5
 returns-5 c =
     let arm = c .before in
-    let read = arm .before .before in
-    ap (movedBy (read .before .before .before .before .before .before .args .c)) (c .answering3 .ensures)
-    ∙ read-as read (arm .enum-told .given .1)
+    c .stays3 .ensures ∙ read-as (arm .before .before) (arm .enum-told .given .1)
 
 pub receipt-spec : {M : Type 1} → statement M
 receipt-spec =

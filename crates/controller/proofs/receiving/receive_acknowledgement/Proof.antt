@@ -8,10 +8,8 @@ use borrow.Author.Tests.{ltb-true, lt-ltb, le-ltb}
 use Rattle.answer.specs.Ask.{firstNo}
 use Rattle.answer.proofs.Asked.{all-yes, stopped, answered}
 use Rattle.message.specs.Senders.{senderQuestions}
-use Rattle.controller.specs.States.{unchanged, progressed}
 use Rattle.controller.specs.Acknowledgements.{acknowledgedOf}
 use Rattle.controller.specs.Moving.{movedBy}
-use Rattle.controller.specs.declared.Progress.{Progress}
 use Rattle.controller.proofs.Within.{within}
 use Rattle.controller.proofs.receiving.receive_acknowledgement.Statement.{statement}
 use Rattle.controller.proofs.receiving.receive_acknowledgement.Tie as tie
@@ -46,16 +44,14 @@ acknowledged-by-requires c κs =
 
 returns-3 : tie.Need-returns-3
 returns-3 c =
-    let past = c .before .before .before .before in
+    let past = c .before .before .before in
     let a = past .before .before .before .before .before .args in
     let above = lt-ltb (acknowledgedOf (a .c) (a .switch)) (a .number) (omega arith) in
-    ap (movedBy (a .c)) (c .answering3 .ensures)
-    ∙ ap (λ (p : Progress). unchanged (progressed (a .c) p) 0) (c .before .acknowledged-by .ensures)
+    ap (movedBy (a .c)) (c .acknowledged-by .ensures)
     ∙ sym (all-yes _ _ _ refl (passed past) ∙ rw above)
 
 pub receive-acknowledgement-spec : {M : Type 1} → statement M
 receive-acknowledgement-spec =
     tie.close
     (tie.spec (λ c κs. search needs) (λ c κs. search needs) returns (λ c. search needs)
-    (λ c. search (needs, known c)) (λ c κs. search needs) returns-2 acknowledged-by-requires (λ c κs. search needs)
-    returns-3)
+    (λ c. search (needs, known c)) (λ c κs. search needs) returns-2 acknowledged-by-requires returns-3)
