@@ -41,7 +41,7 @@ module _ (S : Setting) (v : Valid S) where
   D = domainOf S
 
   -- some controller keeps the rules
-  keeper : (c : ℕ) × Keeps S c
+  pub keeper : (c : ℕ) × Keeps S c
   keeper =
       let some = lowest (S .n) (λ c. not (S .strays c))
       (omega (arith, count-not (S .n) (S .strays), v .straying, v .some)) in
@@ -131,6 +131,17 @@ module _ (S : Setting) (v : Valid S) where
       changesOf S (brought c log) ≡ changesOf S (taken c log)
   unfolding agreedChanges
   taken-changes calls p c keeps = ap (λ a. a .changes) (run-reached S v calls p .took c keeps)
+
+  -- so what it took has the first of the agreed changes
+  pub taken-agreed : (calls : List Call) → Premises S calls → (c : ℕ) → Keeps S c
+      → (more : List Undone) × (agreed S ≡ changesOf S (taken c (run (step S) (start S) calls .log)) ++ more)
+  taken-agreed calls p c keeps =
+      let b = p .beginning c keeps in
+      let adds = agreed-adds (playbook S) (brought c (run (step S) (start S) calls .log)) (b .0) in (
+        adds .0,
+        ap (changesOf S) (b .1) ∙ adds .1
+            ∙ ap (λ (us : List Undone). us ++ adds .0) (taken-changes calls p c keeps),
+      )
 
   -- decisions taken
   pub taken-made : (before rest : List Call) → Premises S (before ++ rest) → (ds : List Decision)

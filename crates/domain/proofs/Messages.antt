@@ -9,12 +9,12 @@ use Prim.Native.Nat.{ℕ, _-_, _≤_, _<_}
 use native.Mathlib.Omega.{arith}
 use lib.Dec.{ltb, leb, eqb}
 use lib.ListN.{length, take, drop}
-use borrow.Author.Tests.{ltb-true, eqb-true, lt-ltb, eq-eqb}
+use borrow.Author.Tests.{ltb-true, eqb-true, lt-ltb, le-leb, eq-eqb}
 use Rattle.answer.specs.Ask.{reply}
-use Rattle.answer.proofs.Bools.{by-bool, and-parts, pick-keeps}
+use Rattle.answer.proofs.Bools.{by-bool, and-parts, and-join, pick-keeps}
 use Rattle.flow.specs.declared.Rule.{Rule}
 use Rattle.tag.specs.Tags.{tagLength, tagOf}
-use Rattle.tag.proofs.Tags.{equal-true}
+use Rattle.tag.proofs.Tags.{equal-true, equal-self}
 use Rattle.message.specs.Keys.{keyAt}
 use Rattle.message.specs.Reading.{decode, isSealed}
 use Rattle.message.specs.Senders.{senderQuestions}
@@ -95,6 +95,12 @@ unfolding isSealed
 sealed-tagged key bytes h =
     let body = length bytes - tagLength in
     sym (equal-true (tagOf key (take body bytes)) (drop body bytes) (and-parts (leb tagLength (length bytes)) _ h .1))
+
+pub tagged-sealed : (key bytes : List ℕ) → tagLength ≤ length bytes → Tagged key bytes → isSealed key bytes ≡ true
+unfolding isSealed
+tagged-sealed key bytes l t =
+    and-join (leb tagLength (length bytes)) _ (le-leb tagLength (length bytes) l)
+    (rw t (equal-self (tagOf key (take (length bytes - tagLength) bytes))))
 
 -- a message from a known sender, for this end, with the tag of the sender's key
 pub record From (all id : ℕ) (keys bytes : List ℕ) (sender receiver : ℕ) : Type 0 where

@@ -34,7 +34,8 @@ pub record Run : Type 0 where
   pub controllers : ℕ → Controller
   pub log : List Done
 
--- what a call leaves in its frame where its message goes; nothing where it has no frame, or nothing to write
+-- what a call leaves in its frame where its message goes: after a refusal, what was there; nothing where it has no
+-- frame, or no message
 abbrev pub switchWrites : List ℕ → Switch → switch-calls.Call → List ℕ
 switchWrites keys s (receives bytes) = []
 switchWrites keys s (writes kind c frame at) =

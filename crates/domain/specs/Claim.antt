@@ -88,8 +88,8 @@ module _ (S : Setting) where
   abbrev pub unmade : List Undone → Run → ℕ
   unmade us r = count (λ u. not (isAmong (u .number) (answered r))) us
 
-  -- each controller that keeps the rules was brought at least these decisions, a beginning of the agreed list, and some
-  -- perhaps more
+  -- each controller that keeps the rules was brought at least these decisions, and some perhaps more; by the premises
+  -- they are a beginning of the agreed list
   abbrev pub AllBrought : List Decision → Run → Type 0
   AllBrought ds r = (c : ℕ) → Keeps S c → (more : List Decision) × (brought c (r .log) ≡ ds ++ more)
 

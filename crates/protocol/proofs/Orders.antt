@@ -16,7 +16,7 @@ use Rattle.protocol.proofs.Worlds.{Agreed}
 use Rattle.protocol.proofs.Claims.{Laws, Next, Lawful, tableAfter}
 
 -- sorting keeps the members
-insert-among : (i k : ℕ) (js : List ℕ) → isAmong i (insert k js) ≡ (eqb k i || isAmong i js)
+pub insert-among : (i k : ℕ) (js : List ℕ) → isAmong i (insert k js) ≡ (eqb k i || isAmong i js)
 unfolding insert among
 insert-among i k [] = refl
 insert-among i k (j ∷ js) =
@@ -27,7 +27,7 @@ insert-among i k (j ∷ js) =
     swap true false c = refl
     swap false b c = refl
 
-falling-among : (i : ℕ) (ks : List ℕ) → isAmong i (falling ks) ≡ isAmong i ks
+pub falling-among : (i : ℕ) (ks : List ℕ) → isAmong i (falling ks) ≡ isAmong i ks
 unfolding falling among
 falling-among i [] = refl
 falling-among i (k ∷ ks) = insert-among i k (falling ks) ∙ rw (falling-among i ks)

@@ -1,9 +1,12 @@
 -- Laws of runs: a run of two lists is one after the other, and so are its moments; what every allowed call keeps, a run
--- keeps, and what a delivery brings about, a run has that contains the delivery. Assumes nothing.
-use mathlib.Core.Path.{_≡_, refl}
-use mathlib.Core.List.{List, [], _∷_, _++_, List·Memᴰ, List·Memᴰ·cases-cons, List·Memᴰ·not-nil}
+-- keeps, and what a delivery brings about, a run has that contains the delivery; rounds counted, and calls added to them.
+use mathlib.Core.Path.{_≡_, refl, sym, ap, _∙_, subst}
+use mathlib.Core.List.{List, [], _∷_, _++_, append-nil, append-assoc, List·Memᴰ, List·Memᴰ·cases-cons}
+use mathlib.Core.List.{List·Memᴰ·not-nil}
 use mathlib.Core.Logic.{inl, inr, ⊎-elim}
-use Rattle.protocol.specs.Runs.{run, Every, Sometime}
+use Prim.Native.Nat.{ℕ, zero, suc, _≤_}
+use native.Mathlib.Omega.{arith}
+use Rattle.protocol.specs.Runs.{run, Every, Sometime, Rounds}
 
 module _ {State Call : Type 0} (step : State → Call → State) where
   pub run-append : (r : State) (xs ys : List Call) → run step r (xs ++ ys) ≡ run step (run step r xs) ys
@@ -58,3 +61,53 @@ module _ {State Call : Type 0} (step : State → Call → State) where
     sometime B Q S keepB moment r (x ∷ xs) h b m =
         ⊎-elim (λ s. moment r (x ∷ xs) h b s)
         (λ t. sometime B Q S keepB moment (step r x) xs (h .1) (keepB r x (h .0) b) t) m
+
+  module _ (Round : State → List Call → Type 0) where
+    -- where there are k rounds, there are fewer
+    pub rounds-fewer : (j k : ℕ) (r : State) (xs : List Call) → j ≤ k → Rounds step Round k r xs
+        → Rounds step Round j r xs
+    rounds-fewer zero k r xs l h = tt
+    rounds-fewer (suc j) zero r xs l h = absurd (omega arith)
+    rounds-fewer (suc j) (suc k) r xs l h = (
+      h .0,
+      h .1,
+      h .2,
+      h .3,
+      h .4,
+      rounds-fewer j k (run step (run step r (h .0)) (h .1)) (h .2) (omega arith) (h .5),
+    )
+
+    module _ (ys : List Call) where
+      -- calls after the first round, with more behind them
+      longer : (xs gap round rest : List Call) → xs ≡ gap ++ (round ++ rest)
+          → xs ++ ys ≡ gap ++ (round ++ (rest ++ ys))
+      longer xs gap round rest is =
+          ap (λ (l : List Call). l ++ ys) is ∙ append-assoc gap (round ++ rest) ys
+          ∙ ap (λ (l : List Call). gap ++ l) (append-assoc round rest ys)
+
+      -- any calls after k rounds leave k rounds; one round more after them makes k + 1
+      pub rounds-more : (k : ℕ) (r : State) (xs : List Call) → Rounds step Round k r xs
+          → Rounds step Round k r (xs ++ ys)
+      rounds-more zero r xs h = tt
+      rounds-more (suc k) r xs h = (
+        h .0,
+        h .1,
+        h .2 ++ ys,
+        longer xs (h .0) (h .1) (h .2) (h .3),
+        h .4,
+        rounds-more k (run step (run step r (h .0)) (h .1)) (h .2) (h .5),
+      )
+
+      pub rounds-add : (k : ℕ) (r : State) (xs : List Call) → Rounds step Round k r xs → Round (run step r xs) ys
+          → Rounds step Round (suc k) r (xs ++ ys)
+      rounds-add zero r xs h round = (xs, ys, [], ap (λ (l : List Call). xs ++ l) (sym (append-nil ys)), round, tt)
+      rounds-add (suc k) r xs h round =
+          let is : run step r xs ≡ run step (run step (run step r (h .0)) (h .1)) (h .2) =
+          ap (run step r) (h .3) ∙ run-append r (h .0) (h .1 ++ h .2) ∙ run-append (run step r (h .0)) (h .1) (h .2) in (
+            h .0,
+            h .1,
+            h .2 ++ ys,
+            longer xs (h .0) (h .1) (h .2) (h .3),
+            h .4,
+            rounds-add k (run step (run step r (h .0)) (h .1)) (h .2) (h .5) (subst (λ (q : State). Round q ys) is round),
+          )
