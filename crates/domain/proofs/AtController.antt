@@ -70,7 +70,7 @@ taken-view : (t : Controller) (s k : ℕ) → s < length (t .progress .acknowled
 taken-view t s k inside =
     by-bool (ltb (acknowledgedOf t s) k) (λ e. rw e (acknowledged-view t s k inside)) (λ e. rw e)
 
-module _ (S : Setting) (v : Valid S) (r : Run) (c : ℕ) (ds : List Decision)
+module _ (S : Setting) (v : Valid S) (r : Run) (c : ℕ) (known : c < S .n) (ds : List Decision)
     (f : ControllerFine S c ds (r .controllers c)) where
   abbrev D : protocol.Domain Rule Table
   D = domainOf S
@@ -82,7 +82,7 @@ module _ (S : Setting) (v : Valid S) (r : Run) (c : ℕ) (ds : List Decision)
   keys = controllerKeys S c
 
   store : length keys ≡ keyLength * 16
-  store = joined-length (S .key c) (v .keys c) 16
+  store = joined-length (S .key c) 16 (v .keys c known)
 
   -- what was written once a call is made
   abbrev saidBy : controller-calls.Call → List (protocol-worlds.Message Rule)
@@ -175,7 +175,7 @@ module _ (S : Setting) (v : Valid S) (r : Run) (c : ℕ) (ds : List Decision)
         acknowledgement-allowed : Unforged S r (atController c (controller-calls.receives bytes))
             → protocol-worlds.Allowed D (view r) (protocol-worlds.takesAcknowledgement c s k)
         acknowledgement-allowed honest =
-            let key = joined-at (S .key c) (v .keys c) 16 s (from .known) in
+            let key = joined-at (S .key c) 16 (v .keys c known) s (from .known) in
             acknowledgement-said (honest s (rw (d, from .here) premises.acknowledgement) (from .known)
             (sealed-tagged (S .key c s) bytes (rw key at (from .sealed)))) d
 

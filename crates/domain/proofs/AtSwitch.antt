@@ -62,7 +62,7 @@ module _ (S : Setting) (v : Valid S) (r : Run) (s : ℕ) (l : s < 16) (f : Switc
   keys = switchKeys S s
 
   store : length keys ≡ keyLength * t .n
-  store = joined-length (λ c. S .key c s) (λ c. v .keys c s) (S .n) ∙ ap (λ (n : ℕ). keyLength * n) (sym (f .n))
+  store = joined-length (λ c. S .key c s) (S .n) (λ c m. v .keys c m s l) ∙ ap (λ (n : ℕ). keyLength * n) (sym (f .n))
 
   -- a call that leaves what is seen of the switch, and says and makes nothing, is not seen
   unseen : (x : switch-calls.Call) → viewSwitch (switch-calls.replyTo keys t x .state) ≡ viewSwitch t
@@ -136,7 +136,7 @@ module _ (S : Setting) (v : Valid S) (r : Run) (s : ℕ) (l : s < 16) (f : Switc
         share-allowed honest = (
           from .known,
           λ keeps.
-              let key = joined-at (λ i. S .key i s) (λ i. v .keys i s) (S .n) c (from .known) in
+              let key = joined-at (λ i. S .key i s) (S .n) (λ i m. v .keys i m s l) c (from .known) in
               share-said (honest c (rw (d, from .here) premises.share) (from .known, keeps)
               (sealed-tagged (S .key c s) bytes (rw key at (from .sealed)))) d,
           all-trusted S v _,

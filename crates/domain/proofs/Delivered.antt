@@ -54,11 +54,11 @@ module _ (S : Setting) (v : Valid S) where
   D = domainOf S
 
   -- the two ends of a pair have the same key
-  pub switch-key : (s c : ℕ) → c < S .n → keyAt (switchKeys S s) c ≡ S .key c s
-  switch-key s c l = joined-at (λ i. S .key i s) (λ i. v .keys i s) (S .n) c l
+  pub switch-key : (s c : ℕ) → s < 16 → c < S .n → keyAt (switchKeys S s) c ≡ S .key c s
+  switch-key s c l known = joined-at (λ i. S .key i s) (S .n) (λ i m. v .keys i m s l) c known
 
-  pub controller-key : (c s : ℕ) → s < 16 → keyAt (controllerKeys S c) s ≡ S .key c s
-  controller-key c s l = joined-at (S .key c) (v .keys c) 16 s l
+  pub controller-key : (c s : ℕ) → c < S .n → s < 16 → keyAt (controllerKeys S c) s ≡ S .key c s
+  controller-key c s known l = joined-at (S .key c) 16 (v .keys c known) s l
 
   -- an acknowledgement: its switch writes it wherever it fits, and its controller takes it
   module _ (r : Run) (s c : ℕ) (l : s < 16) (known : c < S .n) (f : SwitchFine S s (r .switches s)) where
@@ -69,7 +69,7 @@ module _ (S : Setting) (v : Valid S) where
         → acknowledgementWritten t (switchKeys S s) c frame at .0 .answer ≡ 0
     unfolding written reply
     acknowledgement-answered frame at fits =
-        let store = joined-length (λ i. S .key i s) (λ i. v .keys i s) (S .n)
+        let store = joined-length (λ i. S .key i s) (S .n) (λ i m. v .keys i m s l)
         ∙ ap (λ (n : ℕ). keyLength * n) (sym (f .n)) in
         rw (f .ok, eq-eqb _ _ store, lt-ltb c (t .n) (rw (f .n) known), le-leb (at + acknowledgementLength) (length frame) fits)
 
@@ -83,7 +83,7 @@ module _ (S : Setting) (v : Valid S) where
         let read : decode ends.Controller bytes ≡ Acknowledgement s c (t .last) =
         decode-encode (S .key c s) m small refl ∙ ap (λ (i : ℕ). Acknowledgement i c (t .last)) (f .id) in
         let sealed : isSealed (keyAt (controllerKeys S c) s) bytes ≡ true =
-        rw (controller-key c s l) (encode-sealed (S .key c s) m refl) in
+        rw (controller-key c s known l) (encode-sealed (S .key c s) m refl) in
         rw (read, from-is 16 c (controllerKeys S c) bytes s l sealed)
 
   -- a share of a change that is ready in the protocol
@@ -127,5 +127,5 @@ module _ (S : Setting) (v : Valid S) where
         decode-encode key m (omega (arith, is-agreed .1), fine .in-range .0, fine .in-range .1) port
         ∙ (λ i. Share (f .id i) s (n i) (u .rule)) in
         let sealed : isSealed (keyAt (switchKeys S s) c) (encode key m) ≡ true =
-        rw (switch-key s c known) (encode-sealed key m refl) in
+        rw (switch-key s c (fine .known) known) (encode-sealed key m refl) in
         rw (found, read, from-is (S .n) s (switchKeys S s) (encode key m) c known sealed, fine .formed)

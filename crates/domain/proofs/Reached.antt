@@ -175,14 +175,14 @@ module _ (S : Setting) where
           at-switch.writing-seen S v r s l (R .switches s l) c frame at (last-small s) kind
       call-seen (atSwitch s (manages m)) l honest begun = at-switch.managed-seen S v r s l (R .switches s l) m
       call-seen (atController c (controller-calls.receives bytes)) keeps honest begun =
-          at-controller.received-seen S v r c _ (R .controllers c keeps) bytes honest
+          at-controller.received-seen S v r c (keeps .0) _ (R .controllers c keeps) bytes honest
       call-seen (atController c (controller-calls.writesShare s frame at)) keeps honest begun =
           let b = begun-before r (atController c (controller-calls.writesShare s frame at)) begun c keeps in
-          at-controller.share-written-seen S v r c _ (R .controllers c keeps) ranged (b .0) (b .1) s frame at
+          at-controller.share-written-seen S v r c (keeps .0) _ (R .controllers c keeps) ranged (b .0) (b .1) s frame at
       call-seen (atController c (controller-calls.manages (controller-calls.decides s serial cause))) keeps honest
           begun =
           let b = begun c keeps in
-          at-controller.decision-seen S v r c _ (R .controllers c keeps) s serial cause (b .0)
+          at-controller.decision-seen S v r c (keeps .0) _ (R .controllers c keeps) s serial cause (b .0)
           (unfold step decisions in b .1)
 
       -- and leaves the ends as they should be

@@ -25,13 +25,13 @@ pub record Setting : Type 0 where
   pub book : List ℕ
   pub agreed : List Decision
 
--- 1 to 16 controllers, of which at most floor((n - 1) / 3) stray; keys of 32 bytes; bytes that the playbook's reader
--- answers 0
+-- 1 to 16 controllers, of which at most floor((n - 1) / 3) stray; for each of them and each switch a key of 32 bytes;
+-- bytes that the playbook's reader answers 0
 pub record Valid (S : Setting) : Type 0 where
   pub some : 1 ≤ S .n
   pub few : S .n ≤ 16
   pub straying : countBelow (S .n) (S .strays) ≤ (S .n - 1) / 3
-  pub keys : (c s : ℕ) → length (S .key c s) ≡ keyLength
+  pub keys : (c : ℕ) → c < S .n → (s : ℕ) → s < 16 → length (S .key c s) ≡ keyLength
   pub bytes : AreBytes (S .book)
   pub read : readWhole (S .book) .answer ≡ 0
 

@@ -8,24 +8,32 @@ use lib.Seq.{take-all, take-append-le, drop-append-le, drop-at}
 use Rattle.answer.proofs.Bools.{by-eq}
 use Rattle.message.specs.Keys.{keyLength, keyAt, joined}
 
-module _ (key : ℕ → List ℕ) (long : (i : ℕ) → length (key i) ≡ keyLength) where
-  pub joined-length : (n : ℕ) → length (joined key n) ≡ keyLength * n
-  unfolding joined
-  joined-length zero = refl
-  joined-length (suc n) = length-append (joined key n) (key n) ∙ omega (arith, joined-length n, long n)
+module _ (key : ℕ → List ℕ) where
+  -- the first n of them have the length of a key
+  abbrev pub Long : ℕ → Type 0
+  Long n = (i : ℕ) → i < n → length (key i) ≡ keyLength
 
-  pub joined-at : (n i : ℕ) → i < n → keyAt (joined key n) i ≡ key i
+  before : (n : ℕ) → Long (suc n) → Long n
+  before n long i l = long i (omega arith)
+
+  pub joined-length : (n : ℕ) → Long n → length (joined key n) ≡ keyLength * n
   unfolding joined
-  joined-at zero i l = absurd (omega arith)
-  joined-at (suc n) i l =
-      let all = joined-length n in
+  joined-length zero long = refl
+  joined-length (suc n) long =
+      length-append (joined key n) (key n) ∙ omega (arith, joined-length n (before n long), long n (omega arith))
+
+  pub joined-at : (n : ℕ) → Long n → (i : ℕ) → i < n → keyAt (joined key n) i ≡ key i
+  unfolding joined
+  joined-at zero long i l = absurd (omega arith)
+  joined-at (suc n) long i l =
+      let all = joined-length n (before n long) in
       by-eq i n
       (λ e.
       ap (take keyLength) (drop-at (joined key n) (key n) (keyLength * i) (omega arith))
-      ∙ take-all keyLength (key n) (omega (arith, long n)) ∙ ap key (sym e))
+      ∙ take-all keyLength (key n) (omega (arith, long n (omega arith))) ∙ ap key (sym e))
       (λ other.
       let inside : keyLength * i ≤ length (joined key n) = omega arith in
       let left : keyLength ≤ length (drop (keyLength * i) (joined key n)) = rw length-drop (omega arith) in
       ap (take keyLength) (drop-append-le (keyLength * i) (joined key n) (key n) inside)
       ∙ take-append-le keyLength (drop (keyLength * i) (joined key n)) (key n) left
-      ∙ joined-at n i (omega arith))
+      ∙ joined-at n (before n long) i (omega arith))

@@ -21,7 +21,7 @@ unfolding joined
 key-put key long i a b h is =
     let before = joined key i in
     let left : List ℕ = replicate (512 - 32 * (i + 1)) 0 in
-    let size : length before ≡ 32 * i = joined-length key long i in
+    let size : length before ≡ 32 * i = joined-length key i (λ j l. long j) in
     let more : length (before ++ a ∷ []) ≡ 32 * i + 1 = length-append before (a ∷ []) ∙ omega arith in
     let split : 512 - 32 * i ≡ 32 + (512 - 32 * (i + 1)) = omega arith in
     let zeros : replicate (512 - 32 * i) 0 ≡ 0 ∷ 0 ∷ replicate 30 0 ++ left =

@@ -43,11 +43,11 @@ keys-first key long (suc n) zero h = absurd (omega arith)
 keys-first key long n (suc m) h =
     by-le n m
     (λ below.
-    take-append-le (32 * n) (joined key m) (key m) (omega (arith, joined-length key long m))
+    take-append-le (32 * n) (joined key m) (key m) (omega (arith, joined-length key m (λ i l. long i)))
     ∙ keys-first key long n m below)
     (λ above.
     let e : n ≡ suc m = omega arith in
-    rw e (take-all (32 * suc m) (joined key (suc m)) (omega (arith, joined-length key long (suc m)))))
+    rw e (take-all (32 * suc m) (joined key (suc m)) (omega (arith, joined-length key (suc m) (λ i l. long i)))))
 
 -- sixteen keys, of which n are lent
 lent : (n to : ℕ) (keys : List ℕ) → n ≤ 16 → keys ≡ joined (λ (i : ℕ). keyOf i to) 16

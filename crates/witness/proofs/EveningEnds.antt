@@ -60,7 +60,7 @@ valid = record {
   some = omega arith;
   few = omega arith;
   straying = omega arith;
-  keys = λ c s. refl;
+  keys = λ c known s l. refl;
   bytes = bytes-tested (evening .book) refl;
   read = refl;
 }
@@ -129,7 +129,7 @@ module _ (c : ℕ) where
     writes-0 =
         ready-sent aware (controllerKeys evening c) 2 (replicate shareLength 0) 0
         (decided-kept unaware within 5 1 1 (rw held (omega arith)))
-        (joined-length (evening .key c) (valid .keys c) 16) (omega arith) (omega arith) (numbered 1 1 far)
+        (joined-length (evening .key c) 16 (valid .keys c l)) (omega arith) (omega arith) (numbered 1 1 far)
         (rw undone (lowest-found changes rising (omega arith)))
 
     pub writes-share :
@@ -137,7 +137,7 @@ module _ (c : ℕ) where
         (shareWritten aware (controllerKeys evening c) 2 (replicate shareLength 0) 0 .1)
         ≡ share c 2 1 3
     writes-share =
-        let key = joined-at (evening .key c) (valid .keys c) 16 2 (omega arith) in
+        let key = joined-at (evening .key c) 16 (valid .keys c l) 2 (omega arith) in
         share-bytes aware (controllerKeys evening c) 2 (replicate shareLength 0) 0 writes-0
         ∙ rw (undone, lowest-found changes rising (omega arith), key)
 
@@ -164,7 +164,7 @@ module _ (t : Switch) (c k port : ℕ) where
       let four : t .n ≡ 4 = eqb-true _ _ (yes 2) in
       let known : c < 4 = ltb-true _ _ (yes 3) in
       let store : length (switchKeys evening (t .id)) ≡ keyLength * t .n =
-      joined-length keys (λ i. valid .keys i (t .id)) 4 ∙ ap (λ (n : ℕ). keyLength * n) (sym four) in
+      joined-length keys 4 (λ i m. refl) ∙ ap (λ (n : ℕ). keyLength * n) (sym four) in
       let m = Share c (t .id) k (byPort port) in
       rw (
         yes 1,
@@ -172,7 +172,7 @@ module _ (t : Switch) (c k port : ℕ) where
         decode-encode (keys c) m (ltb-true _ _ (yes 4), omega arith, ltb-true _ _ (yes 6)) (yes 5),
         lt-ltb c (t .n) (rw four known),
         eq-eqb (t .id) (t .id) refl,
-        joined-at keys (λ i. valid .keys i (t .id)) 4 c known,
+        joined-at keys 4 (λ i m. refl) c known,
         encode-sealed (keys c) m refl,
       )
 

@@ -93,7 +93,7 @@ module _ (S : Setting) (v : Valid S) where
         let none = acknowledgement-answered S v r s c l (keeps .0) (R .switches s l) frame 0 (omega arith) in
         let whole : part acknowledgementLength 0 (acknowledgementWritten t (switchKeys S s) c frame 0 .1) ≡ bytes =
         sent-bytes t (switchKeys S s) c m true frame 0 none
-        ∙ ap (λ (key : List ℕ). encode key m) (switch-key S v s c (keeps .0)) in
+        ∙ ap (λ (key : List ℕ). encode key m) (switch-key S v s c l (keeps .0)) in
         let kept = ap₂ (entry acknowledging) none whole in
         let next = step S r acknowledging in
         let wrote : SwitchWrote (next .log) s c bytes =
@@ -114,10 +114,10 @@ module _ (S : Setting) (v : Valid S) where
         let bytes = encode (S .key c s) (shareNow r c s) in
         let some = share-there (t .id) s (readyFor t s) there in
         let none = ready-sent t (controllerKeys S c) s frame 0 (R .controllers c keeps .ok)
-        (joined-length (S .key c) (v .keys c) 16) l (rw (some .1) (omega arith)) (some .0) (some .1) in
+        (joined-length (S .key c) 16 (v .keys c (keeps .0))) l (rw (some .1) (omega arith)) (some .0) (some .1) in
         let whole : part (lengthOf (shareNow r c s)) 0 (shareWritten t (controllerKeys S c) s frame 0 .1) ≡ bytes =
         share-bytes t (controllerKeys S c) s frame 0 none
-        ∙ ap (λ (key : List ℕ). encode key (shareNow r c s)) (controller-key S v c s l) in
+        ∙ ap (λ (key : List ℕ). encode key (shareNow r c s)) (controller-key S v c s (keeps .0) l) in
         let kept = ap₂ (entry sharing) none whole in
         let next = step S r sharing in
         let wrote : ControllerWrote (next .log) c s bytes =
