@@ -1,6 +1,7 @@
 #!/bin/sh
-# tests/mutants/run hands rt the edits that it is asked for and no other, passes rt's status on, and leaves the tree as
-# it is: it is run on a small tree with a stand-in for rt that prints the edits which it finds.
+# tests/mutants/run hands rt the edits that it is asked for and no other, passes rt's status on, prints the first error that
+# follows from no other, and leaves the tree as it is: it is run on a small tree with a stand-in for rt that prints the
+# edits which it finds, and leaves a log of one of them.
 set -u
 script=mutants.sh
 . tests/counting
@@ -11,7 +12,16 @@ cp tests/mutants/run "$tree/tests/mutants"
 printf 'one:\ntwo: one\n' >"$tree/crates.txt"
 touch "$tree/crates/one/must-fail/gate.edit" "$tree/crates/two/must-fail/gate.edit"
 touch "$tree/tests/mutants/one/first.edit" "$tree/tests/mutants/one/second.edit" "$tree/tests/mutants/two/third.edit"
-printf '#!/bin/sh\necho "$@" $(ls crates/*/must-fail/*.edit)\nexit 1\n' >"$tree/bin/rt"
+cat >"$tree/bin/rt" <<'EOF'
+#!/bin/sh
+echo "$@" $(ls crates/*/must-fail/*.edit)
+[ -f crates/one/must-fail/second.edit ] || exit 1
+place=target/must-fail/one/second
+mkdir -p $place
+echo "$PWD/$place/proofs/call/Proof.antt:1:1: error: \`call-spec\`: \`close\` was not admitted" >$place/.log
+echo "note: $PWD/$place/src/lib.rt:3:1: it is not proved that the sum fits" >>$place/.log
+exit 1
+EOF
 chmod +x "$tree/bin/rt"
 find "$tree" | sort >"$work/before"
 
@@ -26,9 +36,13 @@ tries() {
 }
 
 one='crates/one/must-fail'
-tries 1 "must-fail one $one/first.edit $one/second.edit" one
-tries 1 "must-fail one two $one/first.edit $one/second.edit crates/two/must-fail/third.edit" one two
-tries 1 "must-fail one $one/second.edit" one second
+fact='one/second: note: src/lib.rt:3:1: it is not proved that the sum fits'
+tries 1 "must-fail one $one/first.edit $one/second.edit
+$fact" one
+tries 1 "must-fail one two $one/first.edit $one/second.edit crates/two/must-fail/third.edit
+$fact" one two
+tries 1 "must-fail one $one/second.edit
+$fact" one second
 tries 1 "must-fail one $one/gate.edit" one gate
 tries 2 'tests/mutants/run: there is no edit one/third' one third
 tries 2 'tests/mutants/run: three has no mutants; without an argument this lists all' three

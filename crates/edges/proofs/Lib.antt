@@ -2,3 +2,4 @@
 pub mod Shares
 pub mod Playbooks
 pub mod Theorem
+pub mod Beside

@@ -10,7 +10,7 @@ use Rattle.flow.specs.Rules.{wellFormed}
 use Rattle.playbook.specs.Reading.{readFrom}
 use Rattle.playbook.specs.Records.{recordAt}
 use Rattle.edges.specs.Asking.{Open, InRange, example}
-use Rattle.edges.specs.Table.{Row, quorums, rule, rules, numbers, playbooks, orders, table, Hold}
+use Rattle.edges.specs.Table.{Row, quorums, rule, rules, numbers, playbooks, table, Hold}
 use Rattle.edges.proofs.Shares.{share-15, share-16, share-good}
 use Rattle.edges.proofs.Playbooks.{change-15, change-34, change-good}
 
@@ -35,7 +35,7 @@ infixr 1 _and_
 _and_ : {A B : Type 0} → A → B → A × B
 row and rows = (row, rows)
 
-joined : (o : Open) (a b : List Row) → Hold o a → Hold o b → Hold o (a ++ b)
+pub joined : (o : Open) (a b : List Row) → Hold o a → Hold o b → Hold o (a ++ b)
 joined o [] b x y = y
 joined o (row ∷ a) b x y = (x .0, joined o a b (x .1) y)
 
@@ -68,11 +68,6 @@ module _ (o : Open) (h : InRange o) where
   playbooks-hold : Hold o (playbooks o)
   unfolding readFrom recordAt reply
   playbooks-hold = (refl, (refl, (refl, (change-34 o h 0x0A00_0000 8 (omega arith), tt))))
-
--- the order of questions
-pub orders-hold : (o : Open) → InRange o → Hold o (orders o)
-unfolding readFrom recordAt reply
-orders-hold o h = (share-15 o h 0 (o .prefix) 33 (omega arith) (h .prefix) refl, (refl, tt))
 
 pub edges : (o : Open) → InRange o → Hold o (table o)
 edges o h =

@@ -9,16 +9,21 @@ use lib.ListN.{length, replicate}
 use Rattle.answer.specs.Ask.{pick}
 use Rattle.lists.specs.Bytes.{be}
 use Rattle.flow.specs.Rules.{portOk, portOf}
+use Rattle.flow.specs.Changes.{applyTo}
 use Rattle.flow.specs.declared.Action.{Action}
 use Rattle.flow.specs.declared.Action.the-variants.{Set}
 use Rattle.flow.specs.declared.Rule.{Rule}
+use Rattle.flow.specs.declared.Table.{Table}
 use Rattle.message.specs.Keys.{keyLength, keyAt}
 use Rattle.message.specs.Writing.{encode}
 use Rattle.message.specs.declared.Message.the-variants.{Share}
 use Rattle.playbook.specs.Reading.{readWhole}
 use Rattle.switch.specs.Slots.{quorumOf}
 use Rattle.switch.specs.States.{setupOf}
+use Rattle.switch.specs.Shares.{takeShare}
 use Rattle.switch.specs.Receiving.{receivedBy}
+use Rattle.switch.specs.declared.Reply.{Reply}
+use Rattle.switch.specs.declared.Slot.{Slot}
 
 -- what the edges leave open: the number of controllers, a switch with its key store, a controller that sends, a share's
 -- number, an action, any prefix, one above 0, and in a playbook the cause of a plan and the flow of a change
@@ -59,11 +64,16 @@ example = record {
   flow = 0;
 }
 
--- asked are the quorum of so many controllers, a share with a number and a rule, and the bytes of a playbook
+-- asked are the quorum of so many controllers, a share with a number and a rule, the bytes of a playbook, a rule
+-- applied to a table, a switch set up with an id and so many controllers, and shares with their senders, once their
+-- bytes passed
 pub data Asked : Type 0 where
   quorum : ℕ → Asked
   share : ℕ → Rule → Asked
   playbook : List ℕ → Asked
+  applied : Table → Rule → Asked
+  setup : ℕ → ℕ → Asked
+  shares : List (ℕ × Slot) → Asked
 
 -- said are a figure, that it is good, and the number of the question that refuses it
 pub data Said : Type 0 where
@@ -74,6 +84,11 @@ pub data Said : Type 0 where
 -- an answer up to the highest good one, or a refusal
 abbrev pub verdict : ℕ → ℕ → Said
 verdict highest answer = pick (leb answer highest) good (refused answer)
+
+-- the answer to the last of some shares, taken one after another
+abbrev pub lastAnswer : Reply → List (ℕ × Slot) → ℕ
+lastAnswer r [] = r .answer
+lastAnswer r ((c, x) ∷ xs) = lastAnswer (takeShare (r .state) c x) xs
 
 -- the bytes of an end, of a plan, and of a change with a rule
 abbrev pub endRecord : List ℕ
@@ -96,3 +111,6 @@ module _ (o : Open) where
       (receivedBy (setupOf (o .switch) (o .n) .state) (o .keys)
       (encode (keyAt (o .keys) (o .sender)) (Share (o .sender) (o .switch) number r)) .answer)
   answerTo (playbook bytes) = verdict 0 (readWhole bytes .answer)
+  answerTo (applied t r) = verdict 1 (applyTo t r .answer)
+  answerTo (setup id n) = verdict 0 (setupOf id n .answer)
+  answerTo (shares xs) = figure (lastAnswer (setupOf 5 4) xs)

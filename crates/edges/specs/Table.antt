@@ -1,5 +1,4 @@
--- Document 01's edges marked ◆, in its order, and two rows on the order of questions. Question 15 is asked of a share
--- and of a playbook's change. Assumes nothing.
+-- Document 01's edges marked ◆, in its order. Question 15 is asked of a share and of a playbook's change.
 use mathlib.Core.Path.{_≡_}
 use mathlib.Core.List.{List, [], _∷_, _++_}
 use Prim.Native.Nat.{ℕ}
@@ -52,14 +51,6 @@ module _ (o : Open) where
       ∷ (playbook (0x13 ∷ []), good)
       ∷ (playbook (0x13 ∷ 0x13 ∷ []), refused 38)
       ∷ (playbook (changeRecord o (rule 0x0A00_0000 8) ++ endRecord), refused 34)
-      ∷ []
-
-  -- beside the marked edges, questions in order: a share with number 0 and a malformed rule is refused by 15 and not by
-  -- 16, and a change on switch 16 with no plan before it by 12 and not by 34
-  abbrev pub orders : List Row
-  orders =
-      (share 0 (rule (o .prefix) 33), refused 15)
-      ∷ (playbook (0x12 ∷ 0 ∷ 16 ∷ 0x0A ∷ 0 ∷ 0 ∷ 0 ∷ 8 ∷ 0 ∷ 3 ∷ endRecord), refused 12)
       ∷ []
 
   -- the table; what is left open may be anything in range

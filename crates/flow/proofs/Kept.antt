@@ -9,8 +9,8 @@ use lib.Dec.{ltb, leb}
 use borrow.Author.Tests.{le-leb, lt-ltb, ltb-true}
 use lib.ListN.{length, drop, length-take, length-append}
 use lib.Seq.{drop-append-seam}
-use Rattle.answer.specs.Ask.{pick}
-use Rattle.answer.proofs.Asked.{none-asked, asked, answered, reply-keeps}
+use Rattle.answer.specs.Ask.{pick, reply}
+use Rattle.answer.proofs.Asked.{answered, reply-keeps}
 use Rattle.answer.proofs.Bools.{and-join, and-parts, or-join, or-right}
 use Rattle.lists.specs.Arrays.{pad, everyTail, every}
 use Rattle.lists.specs.Kinds.{among}
@@ -177,7 +177,8 @@ apply-table r t w h m =
 -- such a rule is applied, and so every call of apply keeps a good table: a refused one leaves it
 pub apply-done : (t : Table) (r : Rule) → tableOk t ≡ true → wellFormed r ≡ true → roomFor r (meaning t) ≡ true
     → applyTo t r ≡ record { answer = 1; table = changed r t }
-apply-done t r h w m = asked _ _ 20 _ _ h ∙ asked _ _ 15 _ _ w ∙ asked _ _ 19 _ _ m ∙ none-asked _ _
+unfolding reply
+apply-done t r h w m = rw (h, w, m)
 
 pub apply-keeps : (t : Table) (r : Rule) → tableOk t ≡ true → tableOk (applyTo t r .table) ≡ true
 apply-keeps t r h =

@@ -7,7 +7,7 @@ use Prim.Native.Nat.{_≤_, _<_}
 use lib.Dec.{ltb}
 use lib.ListN.{length}
 use borrow.Author.Tests.{ltb-true, leb-true, lt-ltb, le-leb}
-use Rattle.answer.specs.Ask.{firstNo}
+use Rattle.answer.specs.Ask.{reply, firstNo}
 use Rattle.answer.proofs.Asked.{asked, none-asked, answered}
 use Rattle.answer.proofs.Bools.{and-join, and-parts}
 use Rattle.flow.specs.Rules.{wellFormed}
@@ -52,7 +52,13 @@ change-passes b c pass =
     }
 
 pub change-asked : (b : Book) (c : Change) → ChangePasses b c → firstNo (changeQuestions b c) ≡ 0
+unfolding reply
 change-asked b c q =
-    asked _ _ 12 _ _ (lt-ltb _ _ (q .known)) ∙ asked _ _ 34 _ _ (lt-ltb _ _ (q .some)) ∙ asked _ _ 15 _ _ (q .formed)
-    ∙ asked _ _ 36 _ _ (and-join _ _ (lt-ltb _ _ (q .room)) (lt-ltb _ _ (q .short)))
-    ∙ asked _ _ 37 _ _ (le-leb _ _ (q .few)) ∙ none-asked _ _
+    rw (
+      lt-ltb _ _ (q .known),
+      lt-ltb _ _ (q .some),
+      q .formed,
+      lt-ltb _ _ (q .room),
+      lt-ltb _ _ (q .short),
+      le-leb _ _ (q .few),
+    )
