@@ -24,7 +24,7 @@ unfolding reply
 setups-hold o = (refl, (refl, (refl, (refl, tt))))
 
 traps-hold : (o : Open) → Hold o traps
-unfolding reply takeShare agreeing pad ones
+unfolding reply takeShare agreeing pad ones among
 traps-hold o = (refl, (refl, (refl, (refl, (refl, (refl, tt))))))
 
 ports-hold : (o : Open) → Hold o ports

@@ -65,8 +65,7 @@ example = record {
 }
 
 -- asked are the quorum of so many controllers, a share with a number and a rule, the bytes of a playbook, a rule
--- applied to a table, a switch set up with an id and so many controllers, and shares with their senders, once their
--- bytes passed
+-- applied to a table, a switch set up with an id and so many controllers, and shares of controllers, one after another
 pub data Asked : Type 0 where
   quorum : ℕ → Asked
   share : ℕ → Rule → Asked
@@ -103,7 +102,9 @@ module _ (o : Open) where
       0x12 ∷ o .flow ∷ o .switch ∷ be 4 (r .prefix) ++ r .length ∷ be 2 (portOf (r .action))
 
   -- what the ends answer: a share arrives, with the tag of its sender's key, at a switch that was just set up, and is
-  -- good where it is held (0) or applied (1); a playbook is good where it is read (0)
+  -- good where it is held (0) or applied (1); a playbook is good where it is read (0), a rule where it is applied (1), a
+  -- setup where it is made (0); shares one after another reach switch 5 of four controllers, their bytes having passed,
+  -- and the last answer counts
   abbrev pub answerTo : Asked → Said
   answerTo (quorum n) = figure (quorumOf n)
   answerTo (share number r) =

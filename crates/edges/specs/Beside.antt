@@ -28,7 +28,7 @@ abbrev pub traps : List Row
 traps =
     (shares ((3, under 2 Remove) ∷ (3, under 3 Remove) ∷ []), figure 0)
     ∷ (shares ((3, under 2 Remove) ∷ (1, under 2 Remove) ∷ []), figure 1)
-    ∷ (shares ((3, under 2 Remove) ∷ (3, under 2 (Set 9)) ∷ []), figure 18)
+    ∷ (shares ((3, under 2 (Set 3)) ∷ (3, under 2 (Set 9)) ∷ []), figure 18)
     ∷ (shares ((3, under 2 Remove) ∷ (3, under 1 Remove) ∷ []), figure 17)
     ∷ (shares ((3, under 2 Remove) ∷ (3, under 2 Remove) ∷ []), figure 2)
     ∷ (shares ((3, under 2 Remove) ∷ (1, under 2 Remove) ∷ (0, under 2 Remove) ∷ []), figure 16)
