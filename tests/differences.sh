@@ -8,9 +8,11 @@ if ! cargo --version >/dev/null 2>&1; then
     echo 'not run: tests/differences.sh needs cargo'
     exit 0
 fi
+programs=$(pwd)/target/bin
+. tests/inputs
 drive=target/bin/drive
 rehearse=target/bin/rehearse
-for program in $drive $rehearse; do
+for program in $drive $rehearse target/bin/assemble; do
     if [ ! -x "$program" ]; then
         echo "tests/differences.sh: $program is not there; rt check makes it"
         echo '0 passed, 1 failed'
@@ -109,7 +111,8 @@ done
 $limit "$compare" runs --scripts 24 --drive $drive >"$work/compared" 2>&1
 ended $? 'runs compared' "$work/compared"
 tail -n 1 "$work/compared"
-cargo test --quiet --offline --locked --release --manifest-path tests/rust/Cargo.toml >"$work/tests" 2>&1
+assembled >"$work/tests" 2>&1 &&
+    cargo test --quiet --offline --locked --release --manifest-path tests/rust/Cargo.toml >>"$work/tests" 2>&1
 ended $? "the Rust side's own tests" "$work/tests"
 
 : >"$work/found.0"

@@ -11,17 +11,12 @@ Nothing here is taken from the crates. Names and numbers are document 01's.
 import random
 import struct
 
-from paper import LARGEST, Calls, key, tag, tell, well_formed
+from paper import (ACKNOWLEDGEMENT, EVENT, FRAME, KEY_LENGTH, LARGEST, SHARE, TAG_LENGTH, Calls, is_sealed, key, key_at,
+                   put, sealed, share, switch_keys, tell, unwritten, well_formed)
 
 
 def quorum(n):
     return (n - 1) // 3 + 1
-
-
-def share(controller, switch, number, rule, secret=None):
-    prefix, length, port = rule
-    body = struct.pack(">BBBIIBH", 2, controller, switch, number, prefix, length, port)
-    return body + tag(secret or key(controller % 256, switch % 256), body)
 
 
 class Switch:
@@ -73,18 +68,18 @@ class Switch:
     def receive(self, keys, s):
         if not self.good():
             return 20
-        if len(keys) != 32 * self.n:
+        if len(keys) != KEY_LENGTH * self.n:
             return 21
-        if len(s) != 30:
+        if len(s) != SHARE.length:
             return 10
-        if s[0] != 2:
+        if s[0] != SHARE.number:
             return 11
-        controller, switch, number, prefix, length, port = struct.unpack(">BBIIBH", s[1:14])
+        controller, switch, number, prefix, length, port = SHARE.fields(s)
         if controller >= self.n:
             return 12
         if switch != self.id:
             return 13
-        if s[14:] != tag(keys[32 * controller:32 * controller + 32], s[:14]):
+        if not is_sealed(key_at(keys, controller), s):
             return 14
         if not well_formed(prefix, length):
             return 15
@@ -120,25 +115,25 @@ class Switch:
     def raise_event(self, cause):
         return self.raise_in_place(cause) if self.good() else 20
 
-    def write(self, keys, event, length, controller, offset):
-        frame = bytearray([0xEE]) * 48
-        if event:
-            body = struct.pack(">BBBIB", 1, self.id, controller, self.serial, self.cause)
-        else:
-            body = struct.pack(">BBBI", 3, self.id, controller, self.last)
+    def unwritable(self, keys, controller, kind, length, offset):
+        """The number that refuses a writing call, or 0."""
         if not self.good():
-            return 20, frame
-        if len(keys) != 32 * self.n:
-            return 21, frame
+            return 20
+        if len(keys) != KEY_LENGTH * self.n:
+            return 21
         if controller >= self.n:
-            return 12, frame
-        if offset + len(body) + 16 > length:
-            return 25, frame
-        if event and self.serial == 0:
-            return 26, frame
-        whole = body + tag(keys[32 * controller:32 * controller + 32], body)
-        frame[offset:offset + len(whole)] = whole
-        return 0, frame
+            return 12
+        if offset + kind.length > length:
+            return 25
+        return 26 if kind is EVENT and self.serial == 0 else 0
+
+    def write(self, keys, kind, length, controller, offset):
+        """The answer, and the frame; `kind` is that of the message to write."""
+        answer, frame = self.unwritable(keys, controller, kind, length, offset), unwritten()
+        if answer == 0:
+            fields = (self.serial, self.cause) if kind is EVENT else (self.last,)
+            put(frame, offset, kind.made(key_at(keys, controller), self.id, controller, *fields))
+        return answer, frame
 
     def look_up(self, address):
         if not self.good():
@@ -165,11 +160,11 @@ class Drill(Calls):
         self.replied("setup", 0 if good else 20)
 
     def keys_of(self, id, length):
-        self.store(b"".join(key(c, id) for c in range(17))[:length])
+        self.store(switch_keys(id, 17)[:length])
 
     def start(self, id, n):
         self.setup(id, n)
-        self.keys_of(id, 32 * n)
+        self.keys_of(id, KEY_LENGTH * n)
 
     def receive(self, s):
         self.call("M", s)
@@ -190,9 +185,9 @@ class Drill(Calls):
         self.call("I", bytes([cause]))
         return self.replied("raised in place", self.state.raise_in_place(cause))
 
-    def write(self, event, length, controller, offset):
-        self.call("E" if event else "A", struct.pack(">BBQ", length, controller, offset))
-        answer, frame = self.state.write(self.keys, event, length, controller, offset)
+    def write(self, kind, length, controller, offset):
+        self.call("E" if kind is EVENT else "A", struct.pack(">BBQ", length, controller, offset))
+        answer, frame = self.state.write(self.keys, kind, length, controller, offset)
         return self.replied("written", answer, " frame " + frame.hex())
 
     def look_up(self, address):
@@ -252,8 +247,8 @@ def every_call(d):
     """One call of each kind, and those that would be good but for the state or the key store."""
     d.share(0, 50, A)
     d.raise_event(1)
-    d.write(True, 48, 0, 0)
-    d.write(False, 48, 0, 0)
+    d.write(EVENT, FRAME, 0, 0)
+    d.write(ACKNOWLEDGEMENT, FRAME, 0, 0)
     d.look_up(0x0A000001)
 
 
@@ -269,20 +264,20 @@ def setups(d):
 def questions(d):
     """Each question of a share, asked by a message that fails it and passes all before it."""
     d.start(5, 4)
-    for length in d.some((0, 24, 29, 31), (1, 23, 46, 300)):
+    for length in d.some((0, EVENT.length, SHARE.length - 1, SHARE.length + 1),
+                         (1, ACKNOWLEDGEMENT.length, SHARE.length + TAG_LENGTH, 300)):
         d.receive((share(0, 5, 1, A) + bytes(300))[:length])
     for kind in d.some((1, 3), (0, 4, 0x12, 0x82)):
-        body = bytes([kind]) + share(0, 5, 1, A)[1:14]
-        d.receive(body + tag(key(0, 5), body))
+        d.receive(sealed(key(0, 5), bytes([kind]) + share(0, 5, 1, A)[1:SHARE.body]))
     for controller in d.some((4, 255), (15, 16)):
         d.receive(share(controller, 5, 1, A, key(controller % 17, 5)))
     for switch in d.some((4, 16), (0, 6, 15, 255)):
         d.receive(share(0, switch, 1, A, key(0, 5)))
     good = share(0, 5, 1, A)
-    for i in d.some((3, 29), range(4, 29)):
+    for i in d.some((3, SHARE.length - 1), range(4, SHARE.length - 1)):
         d.receive(good[:i] + bytes([good[i] ^ 1 << i % 8]) + good[i + 1:])
     d.receive(share(0, 5, 1, A, key(1, 5)))
-    for s in d.some((), (share(0, 5, 1, A, key(0, 6)), good[:14] + bytes(16))):
+    for s in d.some((), (share(0, 5, 1, A, key(0, 6)), good[:SHARE.body] + bytes(TAG_LENGTH))):
         d.receive(s)
     for rule in d.some(((0x0A000001, 8, 3), (0x0A000000, 33, 3)), ((1, 0, 3), (0x0A000000, 255, 0), (0x80000000, 0, 0))):
         for number in d.some((0,), (1,)):
@@ -388,14 +383,14 @@ def evenings(d):
         for number, c in zip(numbers, controllers):
             d.share(c, number, WITHDRAWAL)
         d.look_up(0x0A000001)
-        d.write(False, 48, 0, 0)
+        d.write(ACKNOWLEDGEMENT, FRAME, 0, 0)
     if d.long:
         d.start(5, 4)
         for c in (0, 1, 3):
             d.share(c, 1, A)
         for c in (3, 1, 0):
             d.share(c, 2, B)
-        d.write(False, 48, 1, 0)
+        d.write(ACKNOWLEDGEMENT, FRAME, 1, 0)
 
 
 def limits(d):
@@ -483,9 +478,9 @@ def stores(d):
         d.keys_of(2, length)
         d.share(0, 1, A)
         d.receive(b"")
-        d.write(True, 0, 9, 0)
-        d.write(False, 48, 0, 0)
-        d.write(False, 0, 9, 2 ** 64 - 1)
+        d.write(EVENT, 0, 9, 0)
+        d.write(ACKNOWLEDGEMENT, FRAME, 0, 0)
+        d.write(ACKNOWLEDGEMENT, 0, 9, 2 ** 64 - 1)
     d.raise_event(3)
     d.look_up(0)
     d.keys_of(2, 128)
@@ -496,26 +491,28 @@ def writing(d):
     """12, 25, 26; frames too short, offsets past the end and at the largest number; the serial at its largest."""
     d.start(7, 4)
     for controller in d.some((3, 4), (0, 255)):
-        for event, length, offset in ((True, 48, 0), (True, 23, 0), (False, 48, 0), (False, 22, 0)):
-            d.write(event, length, controller, offset)
+        for kind in (EVENT, ACKNOWLEDGEMENT):
+            for length in (FRAME, kind.length - 1):
+                d.write(kind, length, controller, 0)
     d.raise_event(0)
     d.raise_event(255)
-    for event, size in ((True, 24), (False, 23)):
-        for length in d.some((0, size - 1, size), (1, size + 1, 48)):
+    for kind in (EVENT, ACKNOWLEDGEMENT):
+        size, last = kind.length, FRAME - kind.length
+        for length in d.some((0, size - 1, size), (1, size + 1, FRAME)):
             for offset in d.some((0, 1, 2 ** 64 - size, 2 ** 64 - 1), (length, length + 1, 2 ** 32)):
-                d.write(event, length, 2, offset)
-        for offset in d.some((48 - size, 49 - size), (47 - size,)):
-            d.write(event, 48, 3, offset)
+                d.write(kind, length, 2, offset)
+        for offset in d.some((last, last + 1), (last - 1,)):
+            d.write(kind, FRAME, 3, offset)
     d.set_raised(LARGEST - 1, 9)
-    d.write(True, 48, 1, 3)
+    d.write(EVENT, FRAME, 1, 3)
     for cause in (10, 11):
         d.raise_event(cause)
-        d.write(True, 48, 1, 3)
+        d.write(EVENT, FRAME, 1, 3)
     d.set_last(LARGEST - 1)
     d.share(0, LARGEST, A)
     d.share(1, LARGEST, A)
     d.share(2, LARGEST, A)
-    d.write(False, 48, 1, 3)
+    d.write(ACKNOWLEDGEMENT, FRAME, 1, 3)
 
 
 def in_place(d):
@@ -528,7 +525,7 @@ def in_place(d):
     for cause in (10, 11):
         d.raise_in_place(cause)
     d.raise_event(12)
-    d.write(True, 48, 1, 3)
+    d.write(EVENT, FRAME, 1, 3)
     # no question of the state
     d.set_n(0)
     d.raise_in_place(13)
@@ -547,12 +544,13 @@ def at_random(d, seed, calls):
         if what == 0:
             r.choice((d.raise_event, d.raise_in_place))(r.randrange(256))
         elif what == 1:
-            d.write(r.randrange(2) == 0, r.randrange(20, 49), r.randrange(n + 1), r.randrange(26))
+            kind = EVENT if r.randrange(2) == 0 else ACKNOWLEDGEMENT
+            d.write(kind, r.randrange(20, FRAME + 1), r.randrange(n + 1), r.randrange(26))
         elif what == 2:
             d.look_up(r.choice((0x0A000000, 0x0A010000, 0x0A010001, 0xC0A80001)))
         elif what == 3:
             s = bytearray(share(r.randrange(n), id, number, A))
-            s[r.randrange(30)] ^= 1 << r.randrange(8)
+            s[r.randrange(SHARE.length)] ^= 1 << r.randrange(8)
             d.receive(bytes(s))
         else:
             rule = r.choice((A, A, A, B, (B[0], B[1], 0), (0x0A000000, 8, 9)))

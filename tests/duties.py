@@ -11,8 +11,11 @@ Nothing here is taken from the crates. Names and numbers are document 01's.
 import random
 import struct
 
-from paper import LARGEST, Calls, key, tag, tell, well_formed
+from paper import (ACKNOWLEDGEMENT, EVENT, FRAME, KEY_LENGTH, LARGEST, SHARE, TAG_LENGTH, Calls, acknowledgement,
+                   controller_keys, event, is_sealed, key, key_at, put, record, sealed, tell, unwritten, well_formed)
 
+# Bytes in a controller's key store.
+STORE = 16 * KEY_LENGTH
 # A rule is (prefix, length, port): port 0 removes, None sets port 0, which only a damaged state can have.
 NO_RULE = (0, 0, 0)
 # An undone change is (number, first, flow, switch, rule), a plan (switch, cause, first, count), a change of it
@@ -35,16 +38,6 @@ def rule_bytes(rule):
     """As the program's cases have it, where port 0 can be set."""
     prefix, length, port = rule
     return struct.pack(">IBBH", prefix, length, 0 if port == 0 else 1, port or 0)
-
-
-def event(switch, controller, serial, cause, secret=None):
-    body = struct.pack(">BBBIB", 1, switch, controller, serial, cause)
-    return body + tag(secret or key(controller, switch), body)
-
-
-def acknowledgement(switch, controller, number, secret=None):
-    body = struct.pack(">BBBI", 3, switch, controller, number)
-    return body + tag(secret or key(controller, switch), body)
 
 
 class Book:
@@ -88,10 +81,10 @@ class Book:
     def bytes(self):
         s = b""
         for switch, cause, first, count in self.plans[:self.planned]:
-            s += bytes([0x11, switch, cause])
-            for flow, on, (prefix, length, port) in self.changes[first:first + count]:
-                s += struct.pack(">BBBIBH", 0x12, flow, on, prefix, length, port)
-        return s + b"\x13"
+            s += record("plan", switch, cause)
+            for flow, on, rule in self.changes[first:first + count]:
+                s += record("change", flow, on, *rule)
+        return s + record("end")
 
     def plan(self, switch, cause):
         for s, c, first, count in self.plans[:self.planned]:
@@ -158,23 +151,24 @@ class Controller:
         """The answer, and what is offered."""
         if not self.good():
             return 20, ""
-        if len(keys) != 512:
+        if len(keys) != STORE:
             return 21, ""
-        if len(s) not in (23, 24):
+        kind = {EVENT.length: EVENT, ACKNOWLEDGEMENT.length: ACKNOWLEDGEMENT}.get(len(s))
+        if kind is None:
             return 10, ""
-        if s[0] != (1 if len(s) == 24 else 3):
+        if s[0] != kind.number:
             return 11, ""
-        switch, controller, number = struct.unpack(">BBI", s[1:7])
+        switch, controller, number, *cause = kind.fields(s)
         if switch > 15:
             return 12, ""
         if controller != self.id:
             return 13, ""
-        if s[-16:] != tag(keys[32 * switch:32 * switch + 32], s[:-16]):
+        if not is_sealed(key_at(keys, switch), s):
             return 14, ""
-        if len(s) == 24:
+        if kind is EVENT:
             if number <= self.serials[switch]:
                 return 22, ""
-            return 0, " offered %d %d %d" % (switch, number, s[7])
+            return 0, " offered %d %d %d" % (switch, number, *cause)
         if number <= self.acknowledged[switch]:
             return 2, ""
         self.acknowledged[switch] = number
@@ -188,22 +182,22 @@ class Controller:
             v[0] < u[0] and (v[3] == u[3] or v[1:3] == u[1:3]) for v in self.undone())]
 
     def write(self, keys, length, switch, offset):
-        frame = bytearray([0xEE]) * 48
+        """The answer, and the frame."""
+        frame = unwritten()
         if not self.good():
             return 20, frame
-        if len(keys) != 512:
+        if len(keys) != STORE:
             return 21, frame
         if switch > 15:
             return 12, frame
-        if offset + 30 > length:
+        if offset + SHARE.length > length:
             return 25, frame
         ready = self.ready(switch)
         assert len(ready) <= 1
         if not ready:
             return 26, frame
-        number, first, flow, on, (prefix, bits, port) = ready[0]
-        body = struct.pack(">BBBIIBH", 2, self.id, switch, number, prefix, bits, port)
-        frame[offset:offset + 30] = body + tag(keys[32 * switch:32 * switch + 32], body)
+        number, first, flow, on, rule = ready[0]
+        put(frame, offset, SHARE.made(key_at(keys, switch), self.id, switch, number, *rule))
         return 0, frame
 
     def decide(self, switch, serial, cause):
@@ -259,11 +253,11 @@ class Duty(Calls):
         self.holds()
 
     def keys_of(self, id, length):
-        self.store(b"".join(key(id, s) for s in range(17))[:length])
+        self.store(controller_keys(id, 17)[:length])
 
     def start(self, id, n):
         self.setup(id, n)
-        self.keys_of(id, 512)
+        self.keys_of(id, STORE)
 
     def receive(self, s):
         self.call("m", s)
@@ -280,7 +274,7 @@ class Duty(Calls):
         self.call("d", struct.pack(">BIB", switch, serial, cause))
         return self.replied("decided", self.state.decide(switch, serial, cause))
 
-    def write(self, switch, length=48, offset=0):
+    def write(self, switch, length=FRAME, offset=0):
         self.call("w", struct.pack(">BBQ", length, switch, offset))
         answer, frame = self.state.write(self.keys, length, switch, offset)
         return self.replied("written", answer, more=" frame " + frame.hex())
@@ -328,7 +322,7 @@ def setups(d):
     d.read(EVENING)
     for id, n in d.some(((3, 4), (4, 4), (0, 17)), ((0, 0), (0, 1), (1, 1), (15, 16), (16, 16), (255, 255), (0, 16))):
         d.setup(id, n)
-    d.keys_of(0, 512)
+    d.keys_of(0, STORE)
     d.receive(b"")
     d.write(0)
 
@@ -339,22 +333,23 @@ def questions(d):
     d.set_serial(5, 9)
     good = event(5, 3, 10, 1)
     done = acknowledgement(5, 3, 10)
-    for length in d.some((22, 25), (0, 1, 7, 8, 16, 21, 26, 30, 31, 255)):
+    least, most = ACKNOWLEDGEMENT.length, EVENT.length
+    for length in d.some((least - 1, most + 1), (0, 1, ACKNOWLEDGEMENT.body, EVENT.body, TAG_LENGTH, least - 2,
+                                                 most + 2, SHARE.length, SHARE.length + 1, 255)):
         d.receive((good * 11)[:length])
     d.receive(b"\x03" + good[1:])
     d.receive(b"\x01" + done[1:])
     for kind in d.some((), (0, 2, 3, 4, 129)):
-        body = bytes([kind]) + good[1:8]
-        d.receive(body + tag(key(3, 5), body))
+        d.receive(sealed(key(3, 5), bytes([kind]) + good[1:EVENT.body]))
     for switch in d.some((16,), (17, 255)):
         d.receive(event(switch, 9, 0, 0, key(3, 16)))
         d.receive(acknowledgement(switch, 9, 0, key(3, 16)))
     for controller in d.some((4,), (0, 2, 16, 255)):
         d.receive(event(5, controller, 0, 0, key(3, 5)))
         d.receive(acknowledgement(5, controller, 0, key(3, 6)))
-    for i in d.some((23,), range(3, 23)):
+    for i in d.some((EVENT.length - 1,), range(3, EVENT.length - 1)):
         d.receive(good[:i] + bytes([good[i] ^ 1 << i % 8]) + good[i + 1:])
-    for i in d.some((6,), (3, 4, 5) + tuple(range(7, 23))):
+    for i in d.some((6,), (3, 4, 5) + tuple(range(7, ACKNOWLEDGEMENT.length))):
         d.receive(done[:i] + bytes([done[i] ^ 1 << i % 8]) + done[i + 1:])
     d.receive(event(5, 3, 0, 0, key(3, 6)))
     for s in d.some((), (event(5, 3, 10, 1, key(5, 3)), acknowledgement(5, 3, 10, key(2, 5)))):
@@ -494,19 +489,22 @@ def writing(d):
     d.decide(5, 1, 1)
     for switch in d.some((16,), (17, 255)):
         d.write(switch, 0, 0)
-    for switch, length, offset in ((3, 29, 0), (3, 30, 0), (2, 29, 0), (2, 30, 0), (2, 30, 1), (2, 30, 2 ** 64 - 30)):
+    size, last = SHARE.length, FRAME - SHARE.length
+    for switch, length, offset in ((3, size - 1, 0), (3, size, 0), (2, size - 1, 0), (2, size, 0), (2, size, 1),
+                                   (2, size, 2 ** 64 - size)):
         d.write(switch, length, offset)
     if d.long:
         for switch in (2, 3, 16):
-            for length in (0, 1, 29, 30, 31, 47, 48):
-                for offset in (0, 1, 17, 18, 19, length, length + 1, 2 ** 32, 2 ** 64 - 30, 2 ** 64 - 1):
+            for length in (0, 1, size - 1, size, size + 1, FRAME - 1, FRAME):
+                for offset in (0, 1, last - 1, last, last + 1, length, length + 1, 2 ** 32, 2 ** 64 - size,
+                               2 ** 64 - 1):
                     d.write(switch, length, offset)
     # numbers and a rule at their largest
     d.start(15, 16)
     d.set_last(LARGEST)
     d.set_place(0, (LARGEST, LARGEST, 255, 15, (LARGEST, 32, 65535)))
     d.set_count(1)
-    d.write(15, 48, 18)
+    d.write(15, FRAME, last)
     for number in d.some((), (LARGEST, LARGEST, LARGEST - 1)):
         d.acknowledge(15, number)
         d.write(15)
@@ -516,7 +514,7 @@ def stores(d):
     """21, after 20 and before all others."""
     d.start(2, 4)
     d.decide(5, 1, 1)
-    for length in d.some((128, 513), (0, 1, 32, 480, 511, 544)):
+    for length in d.some((128, STORE + 1), (0, 1, KEY_LENGTH, STORE - KEY_LENGTH, STORE - 1, STORE + KEY_LENGTH)):
         d.keys_of(2, length)
         d.receive(b"")
         d.write(16, 0, 9)
@@ -527,7 +525,7 @@ def stores(d):
     d.receive(b"")
     d.write(2)
     d.set_id(2)
-    d.keys_of(2, 512)
+    d.keys_of(2, STORE)
     if d.long:
         d.acknowledge(2, 1)
 
@@ -662,14 +660,14 @@ def at_random(d, seed, calls):
             d.event(switch, max(c.serials[switch] + r.randrange(-1, 3), 0), r.randrange(256))
         elif what == 2:
             s = bytearray(acknowledgement(switch, c.id, min(c.acknowledged[switch] + 1, LARGEST)))
-            s[r.randrange(23)] ^= 1 << r.randrange(8)
+            s[r.randrange(ACKNOWLEDGEMENT.length)] ^= 1 << r.randrange(8)
             d.receive(bytes(s))
         elif what < 6:
             of = [u[0] for u in c.undone() if u[3] == switch] + [c.acknowledged[switch], c.last + 1]
             ahead = min(of) if r.randrange(8) else c.last + r.randrange(9)
             d.acknowledge(switch, min(max(ahead + r.choice((0, 0, 0, 0, 1, -1)), 0), LARGEST))
         else:
-            d.write(switch, r.choice((48, 48, 48, 40)), r.randrange(20))
+            d.write(switch, r.choice((FRAME, FRAME, FRAME, FRAME - 8)), r.randrange(FRAME - SHARE.length + 2))
 
 
 def no_calls(d):

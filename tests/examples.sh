@@ -1,16 +1,11 @@
 #!/bin/sh
-# The examples are what the programs make of their texts: the bytes, which are those of the case with the same name, the
-# text again, the explanation and the picture. And README shows what is there: its lines of an explanation are an
+# The examples are what the programs make of their texts: the bytes, the lines of the case with the same name, the text
+# again, the explanation and the picture. And README shows what is there: its lines of an explanation are an
 # example's, its rehearsal is one, with the answers that its comments tell.
 set -u
 script=examples.sh
 . tests/counting
 there assemble disassemble explain picture rehearse
-
-# plain: a text without comments, blank lines and free spacing.
-plain() {
-    sed 's/#.*//; s/[[:space:]][[:space:]]*/ /g; s/^ //; s/ $//; /^$/d'
-}
 
 # The examples
 
@@ -23,8 +18,8 @@ for text in examples/*.txt; do
     "$programs/assemble" <"$text" >"$work/bytes"
     cmp "$name.bin" "$work/bytes"
     ended $? "$name.bin is not what $text is assembled to"
-    cmp "tests/cases/${name#examples/}.in" "$name.bin"
-    ended $? "$name.bin is not the case of that name"
+    "$programs/rehearse" <"$name.bin" | cmp - "tests/cases/${name#examples/}.out"
+    ended $? "$name.bin prints other lines than the case of that name"
     plain <"$text" >"$work/plain"
     "$programs/disassemble" <"$name.bin" | plain | cmp - "$work/plain"
     ended $? "$name.bin is told by another text than $text"

@@ -4,10 +4,13 @@
 set -u
 script=explain.sh
 . tests/counting
-there explain picture
+. tests/inputs
+there assemble explain picture
 
-for input in tests/cases/*.in; do
-    name=${input%.in}
+assembled
+ended $? 'the text of a case has a fault'
+for input in "$inputs"/*.in; do
+    name=tests/cases/$(basename "$input" .in)
     "$programs/explain" <"$input" >"$work/explained"
     grep '^[0-9]* [0-9]* [0-9]*  ' "$work/explained" >"$work/told"
     sed 's/^\([0-9]* [0-9]* [0-9]*\)  .*/\1/' "$work/told" | cmp - "$name.out"
@@ -19,7 +22,8 @@ for input in tests/cases/*.in; do
     esac
     ended $? "$name is drawn with other words than it is explained in"
 done
-by_python 'tests/stories.py works out other explanations' tests/stories.py compare "$programs/explain" tests/cases/*.in
+by_python 'tests/stories.py works out other explanations' tests/stories.py compare "$programs/explain" \
+    "$inputs"/*.in
 by_python 'tests/pictures.py expects other pictures' tests/pictures.py "$programs/picture" "$programs/explain" \
-    tests/cases/*.in
+    "$inputs"/*.in
 finish

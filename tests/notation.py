@@ -4,11 +4,12 @@
     python3 tests/notation.py disassemble       bytes to text
     python3 tests/notation.py compare PROGRAM_DIR [--seed S] [--count K]
 
-The last runs the programs assemble and disassemble of PROGRAM_DIR on the texts and bytes written out below, and on the
-cases of tests/cases and K random inputs with two damaged texts each; it tells where they give something else.
+The last runs the programs assemble and disassemble of PROGRAM_DIR on the texts and bytes written out below, on the
+cases' texts, and on K random inputs with two damaged texts each; it tells where they give something else.
 Nothing here is taken from the crates. Names are those of docs/NOTATION.md. A fault is a str, all else is bytes.
 """
 import argparse
+import functools
 import hmac
 import pathlib
 import random
@@ -16,8 +17,10 @@ import re
 import subprocess
 import sys
 
+# Bytes in a tag, and in a raw record's message.
+TAG_LENGTH, MESSAGE = 16, 30
 CASES = pathlib.Path(__file__).resolve().parent / "cases"
-LONGEST_INPUT, LONGEST_TEXT, LONGEST_LINE = 16384, 1048576, 32
+LONGEST_INPUT, LONGEST_TEXT, LONGEST_LINE = 16384, 1048576, 64
 # A record's name, its kind and length, and what is behind the name: names of fields, and in capitals their values.
 RECORDS = {
     "plan": (0x11, 3, "switch BYTE cause BYTE"),
@@ -26,25 +29,26 @@ RECORDS = {
     "decide": (0x21, 8, "controller BYTE switch BYTE serial WORD cause BYTE"),
     "send": (0x22, 3, "controller BYTE switch BYTE"),
     "report": (0x23, 3, "switch BYTE controller BYTE"),
-    "raw": (0x24, 32, "switch BYTE MESSAGE"),
+    "raw": (0x24, 2 + MESSAGE, "switch BYTE MESSAGE"),
     "keep": (0x25, 4, "controller BYTE switch BYTE place BYTE"),
     "deliver": (0x26, 2, "place BYTE"),
 }
 KINDS = {kind: (name, length, fields) for name, (kind, length, fields) in RECORDS.items()}
 SHARE, PAIR = "controller BYTE switch BYTE number WORD RULE", "controller END switch END"
-WIDTHS, LAST = {"END": 1, "BYTE": 1, "WORD": 4, "RULE": 7, "MESSAGE": 30}, {"END": 15, "BYTE": 255, "WORD": 4294967295}
+WIDTHS = {"END": 1, "BYTE": 1, "WORD": 4, "RULE": 7, "MESSAGE": MESSAGE}
+LAST = {"END": 15, "BYTE": 255, "WORD": 4294967295}
 NAMES = "plan, change, end, decide, send, report, raw, keep, deliver or bytes"
 NUMBER, SMALL = "0|[1-9][0-9]{0,9}", "(25[0-5]|2[0-4][0-9]|1[0-9][0-9]|[1-9]?[0-9])"
 
 
 def tag(controller, switch, body):
-    return hmac.digest(bytes([controller, switch]) + bytes(30), body, "sha256")[:16]
+    return hmac.digest(bytes([controller, switch]) + bytes(30), body, "sha256")[:TAG_LENGTH]
 
 
 def giver(share):
     """The pair whose key gives this share its tag, or none."""
     pairs = ((controller, switch) for controller in range(16) for switch in range(16))
-    return next((pair for pair in pairs if tag(*pair, share[:14]) == share[14:]), None)
+    return next((pair for pair in pairs if tag(*pair, share[:-TAG_LENGTH]) == share[-TAG_LENGTH:]), None)
 
 
 def whole(s):
@@ -89,13 +93,13 @@ class Line:
 
     def message(self):
         if self.take("share or bytes", "share|bytes") == "bytes":
-            s = self.bytes(30, 30)
+            s = self.bytes(MESSAGE, MESSAGE)
             self.late = "share, since these bytes are one" if s[0] == 2 else None
             return s
         body = b"\2" + self.fields(SHARE)
         if self.take("key or tag", "key|tag") == "key":
             return body + tag(*self.fields(PAIR), body)
-        s = body + self.bytes(16, 16)
+        s = body + self.bytes(TAG_LENGTH, TAG_LENGTH)
         if giver(s):
             self.late = "key controller %d switch %d, which gives this tag" % giver(s)
         return s
@@ -131,6 +135,7 @@ class Line:
         return s
 
 
+@functools.lru_cache(maxsize=4)
 def assemble(text):
     if len(text) > LONGEST_TEXT:
         return "line %d: expected at most 1048576 bytes of text" % (1 + text.count(b"\n", 0, LONGEST_TEXT))
@@ -165,18 +170,19 @@ def told(fields, s):
         elif field == "MESSAGE" and part[0] == 2:
             pair = giver(part)
             words += ["share", told(SHARE, part[1:])]
-            words.append("key " + told(PAIR, bytes(pair)) if pair else "tag " + spelled(part[14:]))
+            words.append("key " + told(PAIR, bytes(pair)) if pair else "tag " + spelled(part[-TAG_LENGTH:]))
         else:
             words.append("bytes " + spelled(part) if field == "MESSAGE" else field)
     return " ".join(words)
 
 
+@functools.lru_cache(maxsize=4)
 def disassemble(s):
     if len(s) > LONGEST_INPUT:
         return "expected at most 16384 bytes"
     text, i = "controllers %d\n" % s[0] if s else "", 1
-    while whole(s[i:i + 32]):
-        name, length, fields = whole(s[i:i + 32])
+    while whole(s[i:i + LONGEST_LINE]):
+        name, length, fields = whole(s[i:i + LONGEST_LINE])
         line = " ".join([name] + [told(fields, s[i + 1:i + length])] * (length > 1))
         # A plan has its blank line and an end its own: there are two between an end and a plan.
         text += {"plan": "\n%s\n", "change": "  %s\n", "end": "%s\n\n"}.get(name, "%s\n") % line
@@ -187,8 +193,9 @@ def disassemble(s):
 
 
 # Faulty lines behind FOUR, by what is expected there; texts, by their bytes or fault; and bytes, with text or fault.
-FOUR, CHANGE, ENDS, JUNK = "controllers 4\n", "change flow 0 switch 2 ", 16382 * "end\n", "bytes FF" + 31 * " 13"
-RAW, TWO = "raw switch 2 share controller 0 switch 2 number 1 10.0.0.0/8 port 3 ", "raw switch 2 bytes" + 29 * " 02"
+FOUR, CHANGE, ENDS, JUNK = "controllers 4\n", "change flow 0 switch 2 ", 16382 * "end\n", "bytes FF" + 63 * " 13"
+RAW = "raw switch 2 share controller 0 switch 2 number 1 10.0.0.0/8 port 3 "
+TWO = "raw switch 2 bytes" + (MESSAGE - 1) * " 02"
 TAG = "05 19 D7 89 C2 AC AE 99 C1 89 49 81 75 C8 F5 22"     # That share's, with the key of controller 0 and switch 2.
 FAULTY = {
     "plan, change, end, decide, send, report, raw, keep, deliver or bytes": (
@@ -211,7 +218,8 @@ FAULTY = {
     "the end of the line": ("end end", "plan switch 5 cause 1 1", CHANGE + "1.2.3.4/5 remove 0", TWO + " 02 02",
                             JUNK + " foo", RAW + "tag " + TAG + " 22", RAW + "key controller 0 switch 2 end"),
     "the name of the record that these bytes are": ["bytes " + s for s in ("13", "13 FF", "11 05 01", "25 00 00 00",
-        "12" + 9 * " 00", "21" + 7 * " 00", "22 00 00", "23 00 00 00", "24" + 31 * " 02", "26 FF", "26" + 31 * " FF")],
+        "12" + 9 * " 00", "21" + 7 * " 00", "22 00 00", "23 00 00 00", "24" + (MESSAGE + 1) * " 02", "26 FF",
+        "26" + 31 * " FF")],
     "key controller 0 switch 2, which gives this tag": (RAW + "tag " + TAG, "\t" + RAW + "\r\t tag  " + TAG + "#"),
 }
 MARK = "\xef\xbb\xbf"
@@ -221,9 +229,9 @@ TEXTS = {
     "04": ("controllers 4", FOUR.ljust(1048576), (FOUR + "#").ljust(1048576, "\xff"), "controllers 4\r\n"),
     "00 13 13": ("controllers 0\nend#\r\n \r\tend # end", MARK + "controllers 0\nend\nend"),
     "FF": ("\r\n\tcontrollers\t255#5\r\n#\xff\0\n",),
-    "04 FF" + 31 * "13": (FOUR + JUNK,), "04 FF" + 32 * "13" + "FF": (FOUR + JUNK + "\n\n bytes 13 FF#",),
+    "04 FF" + 63 * "13": (FOUR + JUNK,), "04 FF" + 64 * "13" + "FF": (FOUR + JUNK + "\n\n bytes 13 FF#",),
     "04 24 02 02 00 02 00000001 0A000000 08 0003" + TAG: (FOUR + RAW + "key controller 0 switch 2",),
-    "04 24 02 02 00 02 00000001 0A000000 08 0003" + 16 * "00": (FOUR + RAW + "tag" + 16 * " 00",),
+    "04 24 02 02 00 02 00000001 0A000000 08 0003" + TAG_LENGTH * "00": (FOUR + RAW + "tag" + TAG_LENGTH * " 00",),
     "04 21 0102FFFFFFFF03": (FOUR + "decide controller 1 switch 2 serial 4294967295 cause 3",),
     "line 1: expected controllers": ("end", "Controllers 4", "4", MARK[:2] + "controllers 4", 2 * MARK + FOUR),
     "line 3: expected controllers": ("\n#\nbytes 04",),
@@ -234,7 +242,7 @@ TEXTS = {
     "04" + 16383 * "13": (FOUR + ENDS + "end",), "04" + 16382 * "13" + "FF": (FOUR + ENDS + "bytes FF",),
     "line 16384: expected at most 16384 bytes in all": (FOUR + ENDS + "bytes 1F 1F", FOUR + ENDS + "deliver place 1"),
     "line 16385: expected the name of the record that these bytes are": (FOUR + ENDS + "end\nbytes 13",),
-    "line 513: expected at most 16384 bytes in all": (FOUR + 512 * (JUNK + "\n"),),
+    "line 257: expected at most 16384 bytes in all": (FOUR + 256 * (JUNK + "\n"),),
     "line 1: expected at most 1048576 bytes of text": ("foo".ljust(1048576) + "\n", "#" * 1048577),
     "line 2: expected at most 1048576 bytes of text": (FOUR.ljust(1048577), FOUR.ljust(1048576) + "\nfoo\n"),
     "line 1048577: expected at most 1048576 bytes of text": ("\n" * 1048577 + "foo",),
@@ -242,7 +250,7 @@ TEXTS = {
 LAID_OUT = {
     "": "", "00": "controllers 0\n", "04 11": FOUR + "bytes 11\n", "04" + 16384 * "13": "expected at most 16384 bytes",
     "04 110501 12000201020304050000 13": FOUR + "\nplan switch 5 cause 1\n  " + CHANGE + "1.2.3.4/5 remove\nend\n\n",
-    16384 * "04": FOUR + 511 * ("bytes" + 32 * " 04" + "\n") + "bytes" + 31 * " 04" + "\n",
+    16384 * "04": FOUR + 255 * ("bytes" + 64 * " 04" + "\n") + "bytes" + 63 * " 04" + "\n",
 }
 
 
@@ -256,13 +264,13 @@ def some_record(r):
     if kind == 0x24 and r.randrange(5):
         body = b"\2" + some_bytes(r, 11) + r.choice((b"\0\0", s[14:16]))
         given = tag(r.randrange(17), r.randrange(17), body)
-        s = s[:2] + body + r.choice((given, given, s[16:], given[:15] + s[31:]))
+        s = s[:2] + body + r.choice((given, given, s[-TAG_LENGTH:], given[:-1] + s[-1:]))
     return s
 
 
 def some_input(r):
     s = some_bytes(r, 1) + b"".join(some_record(r) for _ in range(r.randrange(10)))
-    i, junk = r.randrange(len(s) + 1), some_bytes(r, r.choice((1, 2, 31, 32, 33, 63, 64, 65, r.randrange(99))))
+    i, junk = r.randrange(len(s) + 1), some_bytes(r, r.choice((1, 2, 31, 63, 64, 65, 127, 128, 129, r.randrange(199))))
     return r.choice((s, s, s, s + b"\xff" + junk, s + b"\xff" + s, s + junk, s[:i], s[i:], s[:i] + junk[:3] + s[i:],
                      s[:i] + junk[:1] + s[i + 1:], junk, bytes(r.randrange(256) for _ in junk)))
 
@@ -272,7 +280,7 @@ def in_bytes(r, line):
     s = assemble((FOUR + line).encode("latin-1"))
     if isinstance(s, str):
         return line
-    raw = ["raw switch 1 bytes " + spelled(s[3:]), line.partition("key")[0] + "tag " + spelled(s[-16:])]
+    raw = ["raw switch 1 bytes " + spelled(s[3:]), line.partition("key")[0] + "tag " + spelled(s[-TAG_LENGTH:])]
     return r.choice(["bytes " + spelled(s[1:])] + raw * (s[1:2] == b"\x24"))
 
 
@@ -300,7 +308,12 @@ def tests(seed, count):
         yield "a text", assemble, text.encode("latin-1"), wanted if "line" in wanted else bytes.fromhex(wanted)
     for s, wanted in LAID_OUT.items():
         yield "bytes", disassemble, bytes.fromhex(s), wanted if "expected" in wanted else wanted.encode()
-    inputs = [(case.name, case.read_bytes()) for case in sorted(CASES.glob("*.in"))]
+    inputs = []
+    for case in sorted((*CASES.glob("*.txt"), *CASES.glob("../../examples/*-evening.txt"))):
+        text, s = case.read_bytes(), assemble(case.read_bytes())
+        assert isinstance(s, bytes), "%s: %s" % (case, s)
+        inputs.append((case.stem, s))
+        yield case.stem, assemble, text, s
     assert inputs, "no cases"
     inputs += [("random %d" % i, some_input(random.Random("%d %d" % (seed, i)))) for i in range(count)]
     for where, s in inputs:
@@ -308,7 +321,6 @@ def tests(seed, count):
         yield where, disassemble, s, text
         if not isinstance(text, str):
             yield where, assemble, text, s
-            yield where, disassemble, assemble(text), text
             for _ in range(2):
                 yield where, assemble, damaged(r, text.decode()).encode("latin-1"), None
 

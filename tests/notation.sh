@@ -1,21 +1,25 @@
 #!/bin/sh
-# Every case told by `disassemble` is assembled to the same bytes, whose text is the same again; and both programs do
-# what tests/notation.py works out, on the cases, on random and damaged inputs and texts, and on each fault of the page.
+# Every case's text is assembled to bytes that `disassemble` tells by the same text, up to comments and spacing. Both
+# programs do what tests/notation.py works out, on the cases, on random and damaged inputs and texts, and on each fault
+# of the page.
 set -u
 script=notation.sh
 . tests/counting
+. tests/inputs
 there assemble disassemble
 
-# again CASE: its bytes and its text come back, and neither program says anything on standard error.
+# again TEXT: it and its bytes come back, and neither program says anything on standard error.
 again() {
-    "$programs/disassemble" <"$1" >"$work/text" 2>"$work/errors" &&
-        "$programs/assemble" <"$work/text" >"$work/bytes" 2>>"$work/errors" && cmp "$1" "$work/bytes" &&
-        "$programs/disassemble" <"$work/bytes" 2>>"$work/errors" | cmp - "$work/text" && [ ! -s "$work/errors" ]
+    plain <"$1" >"$work/plain"
+    "$programs/assemble" <"$1" >"$work/bytes" 2>"$work/errors" &&
+        "$programs/disassemble" <"$work/bytes" >"$work/text" 2>>"$work/errors" &&
+        plain <"$work/text" | cmp - "$work/plain" &&
+        "$programs/assemble" <"$work/text" 2>>"$work/errors" | cmp - "$work/bytes" && [ ! -s "$work/errors" ]
 }
 
-for input in tests/cases/*.in; do
-    again "$input"
-    ended $? "$input does not come back"
+for text in $texts; do
+    again "$text"
+    ended $? "$text does not come back"
 done
 by_python 'tests/notation.py works out something else' tests/notation.py compare "$programs"
 finish

@@ -1,33 +1,24 @@
 """Rehearsals, worked out from document 01 with Python's own library: the playbook, the script, both ends and the lines.
 
     python3 tests/rehearsals.py FILE        the lines for an input
-    python3 tests/rehearsals.py cases       which cases of tests/cases have other lines, or are told otherwise there
-    python3 tests/rehearsals.py evenings    writes the evenings' cases, as tests/cases/EVENINGS.md tells them
+    python3 tests/rehearsals.py cases       which cases have other lines, or are told otherwise in EVENINGS.md there
 
-Nothing here is taken from the crates. Names and numbers are document 01's.
+Nothing here is taken from the crates. Names and numbers are document 01's. The cases are texts in the notation, which
+tests/notation.py turns into bytes.
 """
 import glob
 import os
 import re
-import struct
 import sys
 
 from drills import Switch
 from duties import Book, Controller
-from paper import key
-from trials import read_first
+from notation import assemble
+from paper import ACKNOWLEDGEMENT, SCRIPT, SHARE, controller_keys, read_first, record_at, switch_keys
 
-CASES = os.path.join(os.path.dirname(os.path.abspath(__file__)), "cases")
+HERE = os.path.dirname(os.path.abspath(__file__))
+CASES, EXAMPLES = os.path.join(HERE, "cases"), os.path.join(HERE, "..", "examples")
 LONGEST_SCRIPT = 8192
-# A script record's kind, the call it stands for and its fields.
-RECORDS = {
-    0x21: ("decide", ">BBIB"),
-    0x22: ("send", ">BB"),
-    0x23: ("report", ">BB"),
-    0x24: ("raw", ">B30s"),
-    0x25: ("keep", ">BBB"),
-    0x26: ("deliver", ">B"),
-}
 
 
 class Rehearsal:
@@ -44,14 +35,13 @@ class Rehearsal:
 
     def made(self, controller, switch):
         """The answer, and the current share."""
-        keys = b"".join(key(controller, s) for s in range(16))
-        answer, frame = self.controllers[controller].write(keys, 30, switch, 0)
-        return answer, bytes(frame[:30])
+        keys = controller_keys(controller)
+        answer, frame = self.controllers[controller].write(keys, SHARE.length, switch, 0)
+        return answer, bytes(frame[:SHARE.length])
 
     def delivered(self, switch, share):
         end = self.switches[switch]
-        keys = b"".join(key(c, switch) for c in range(self.n))
-        return end.receive(keys, share), end.last
+        return end.receive(switch_keys(switch, self.n), share), end.last
 
     def decide(self, controller, switch, serial, cause):
         if not self.known(switch, controller):
@@ -68,12 +58,10 @@ class Rehearsal:
     def report(self, switch, controller):
         if not self.known(switch, controller):
             return 12, 0
-        keys = b"".join(key(c, switch) for c in range(self.n))
-        answer, frame = self.switches[switch].write(keys, False, 23, controller, 0)
-        end = self.controllers[controller]
+        size, end = ACKNOWLEDGEMENT.length, self.controllers[controller]
+        answer, frame = self.switches[switch].write(switch_keys(switch, self.n), ACKNOWLEDGEMENT, size, controller, 0)
         if answer == 0:
-            keys = b"".join(key(controller, s) for s in range(16))
-            answer, _ = end.receive(keys, bytes(frame[:23]))
+            answer, _ = end.receive(controller_keys(controller), bytes(frame[:size]))
         return answer, end.count
 
     def raw(self, switch, share):
@@ -96,13 +84,11 @@ class Rehearsal:
 
     def record(self, s):
         """The record that s begins with: its length, or none where the run stops, its answer and its figure."""
-        if s[0] not in RECORDS:
-            return None, 31, 0
-        call, fields = RECORDS[s[0]]
-        length = 1 + struct.calcsize(fields)
-        if length > len(s):
-            return None, 30, 0
-        return (length,) + getattr(self, call)(*struct.unpack(fields, s[1:length]))
+        found = record_at(SCRIPT, s)
+        if found in (30, 31):
+            return None, found, 0
+        call, length, fields = found
+        return (length,) + getattr(self, call)(*fields)
 
 
 def begun(s):
@@ -142,60 +128,48 @@ def text(lines):
 
 
 def told():
-    """The evenings: a name, the input and the lines, from the rows of the table under a heading with that name."""
+    """The evenings: a name, the input and the lines, from the rows of the tables under a heading with that name."""
     with open(os.path.join(CASES, "EVENINGS.md"), encoding="utf-8") as page:
         parts = re.split(r"^## .*`([\w-]+)`$", page.read(), flags=re.MULTILINE)
     for name, part in zip(parts[1::2], parts[2::2]):
-        rows = re.findall(r"^\|[^|]*\| `([0-9A-F ]+)` \|(?: `([0-9 ]+)`)? \|", part, flags=re.MULTILINE)
-        yield name, bytes.fromhex("".join(row[0] for row in rows)), text(row[1] for row in rows if row[1])
+        rows = re.findall(r"^\|[^|]*\| `([^`|]+)` \|(?: `([0-9 ]+)`)? \|", part, flags=re.MULTILINE)
+        yield name, assemble("\n".join(row[0] for row in rows).encode()), text(row[1] for row in rows if row[1])
 
 
-def case(name, part):
-    return os.path.join(CASES, name + part)
-
-
-def held(name, part):
-    """A case's file, or none."""
-    if not os.path.exists(case(name, part)):
-        return None
-    with open(case(name, part), "rb") as file:
+def held(path):
+    with open(path, "rb") as file:
         return file.read()
+
+
+def cases():
+    """The cases: a name, the input and the lines. The evenings' texts are examples, the others stand beside them."""
+    for path in sorted(glob.glob(os.path.join(CASES, "*.txt")) + glob.glob(os.path.join(EXAMPLES, "*-evening.txt"))):
+        name = os.path.basename(path)[:-len(".txt")]
+        yield name, assemble(held(path)), held(os.path.join(CASES, name + ".out"))
 
 
 def compare():
     """The cases for which something else is worked out, and the evenings that are told otherwise."""
-    names = sorted(os.path.basename(path)[:-len(".in")] for path in glob.glob(case("*", ".in")))
-    for name in names:
-        if text(rehearse(held(name, ".in"))) != held(name, ".out"):
-            yield "%s.out is not what is worked out for %s.in" % (name, name)
+    known = {name: (s, lines) for name, s, lines in cases()}
+    for name, (s, lines) in known.items():
+        if isinstance(s, str):
+            yield "the text of %s has a fault: %s" % (name, s)
+        elif text(rehearse(s)) != lines:
+            yield "%s.out is not what is worked out for %s" % (name, name)
     evenings = list(told())
     for name, s, lines in evenings:
-        if (s, lines) != (held(name, ".in"), held(name, ".out")):
+        if (s, lines) != known.get(name):
             yield "EVENINGS.md and the case %s differ" % name
-    if not names or not evenings:
+    if not known or not evenings:
         yield "no cases, or no evenings"
-
-
-def write():
-    """Writes the cases of the evenings whose told lines are those worked out; gives the others' differences."""
-    for name, s, lines in told():
-        made = text(rehearse(s))
-        if made != lines:
-            yield "%s is told otherwise than worked out:\n%s" % (name, made.decode())
-            continue
-        for part, content in ((".in", s), (".out", made)):
-            with open(case(name, part), "wb") as file:
-                file.write(content)
 
 
 def main():
     if len(sys.argv) != 2:
         sys.exit(__doc__)
-    if sys.argv[1] in ("cases", "evenings"):
-        wrong = list(compare() if sys.argv[1] == "cases" else write())
-        sys.exit("\n".join(wrong) or 0)
-    with open(sys.argv[1], "rb") as file:
-        sys.stdout.buffer.write(text(rehearse(file.read())))
+    if sys.argv[1] == "cases":
+        sys.exit("\n".join(compare()) or 0)
+    sys.stdout.buffer.write(text(rehearse(held(sys.argv[1]))))
 
 
 if __name__ == "__main__":

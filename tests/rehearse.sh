@@ -1,10 +1,11 @@
 #!/bin/sh
-# The program rehearse prints the expected lines for every case of tests/cases, and for inputs that come in pieces, are
-# empty, too long or not there at all; no case is lost; and bin/rehearse builds, rehearses and refuses as it says.
+# The program rehearse prints the expected lines for every case, and for inputs that come in pieces, are empty, too long
+# or not there at all; no case is lost; and bin/rehearse builds, rehearses and refuses as it says.
 set -u
 script=rehearse.sh
 . tests/counting
-there rehearse
+. tests/inputs
+there assemble rehearse
 program=$programs/rehearse
 cases=$(pwd)/tests/cases
 command=$(pwd)/bin/rehearse
@@ -22,27 +23,34 @@ prints() {
 
 # The cases
 
-for input in "$cases"/*.in; do
+assembled
+ended $? 'the text of a case has a fault'
+for input in "$inputs"/*.in; do
     [ -e "$input" ] || continue
     name=$(basename "$input" .in)
     prints "case $name" "$cases/$name.out" <"$input"
 done
 for part in in out; do
-    for file in "$cases"/*."$part"; do
+    for file in "$inputs"/*."$part" "$cases"/*."$part"; do
         [ ! -e "$file" ] || basename "$file" ".$part"
     done | sort >"$work/$part"
 done
-sed 's/ .*//' "$cases/INDEX.txt" | sort >"$work/index"
 [ -s "$work/in" ]
 ended $? 'there are no cases'
 cmp "$work/in" "$work/out"
 ended $? 'a case has no .out, or an .out has no case'
-cmp "$work/in" "$work/index"
-ended $? 'a case has no line in INDEX.txt, or two, or a line has no case'
+# shellcheck disable=SC2086
+awk 'FNR == 1 && !/^# [[:alnum:]]/ { print FILENAME; bad = 1 } END { exit bad }' $texts
+ended $? 'these texts do not begin with a comment that says what they are'
 by_python 'tests/rehearsals.py works out other lines, or EVENINGS.md tells others' tests/rehearsals.py cases
 
 # Inputs of any length, however they come
 
+first=$inputs/00001.in
+if [ ! -s "$first" ]; then
+    ended 1 'case 00001 is not there, and what follows needs it'
+    finish
+fi
 mkfifo "$work/pipe" || exit 1
 in_pieces() {
     dd bs=1 count=1 2>/dev/null
@@ -51,7 +59,7 @@ in_pieces() {
     sleep 1
     cat
 }
-in_pieces <"$cases/00001.in" >"$work/pipe" &
+in_pieces <"$first" >"$work/pipe" &
 prints 'an input in pieces' "$cases/00001.out" <"$work/pipe"
 
 # doubled TIMES: the file script, so often doubled.
@@ -122,14 +130,14 @@ tried() {
 in_folder() {
     (cd "$1" && shift && "$@")
 }
-tried 'a file' 0 "$cases/00001.out" '*00001.in is in bytes' "$command" "$cases/00001.in"
+tried 'a file' 0 "$cases/00001.out" '*00001.in is in bytes' "$command" "$first"
 tried 'a file beside it, from another folder' 0 "$cases/00001.out" '*: 00001.in is in bytes' \
-    in_folder "$cases" "$command" 00001.in
-tried 'standard input' 0 "$cases/00001.out" '*standard input is in bytes' "$command" - <"$cases/00001.in"
+    in_folder "$inputs" "$command" 00001.in
+tried 'standard input' 0 "$cases/00001.out" '*standard input is in bytes' "$command" - <"$first"
 tried 'no file' 2 /dev/null '*usage: *' "$command"
-tried 'two files' 2 /dev/null '*usage: *' "$command" "$cases/00001.in" "$cases/00004.in"
-tried 'an unknown option' 2 /dev/null '*no option --explan;*' "$command" --explan "$cases/00001.in"
-tried 'a picture without its file' 2 /dev/null '*usage: *' "$command" "$cases/00001.in" --picture
+tried 'two files' 2 /dev/null '*usage: *' "$command" "$first" "$inputs/00004.in"
+tried 'an unknown option' 2 /dev/null '*no option --explan;*' "$command" --explan "$first"
+tried 'a picture without its file' 2 /dev/null '*usage: *' "$command" "$first" --picture
 tried 'a file that is not there' 2 /dev/null '*cannot read *nowhere' "$command" "$work/nowhere"
 tried 'a folder' 2 /dev/null '*cannot read *' "$command" "$work"
 "$command" --help 2>"$work/errors" | grep -q '^usage: bin/rehearse ' && [ ! -s "$work/errors" ]
@@ -139,12 +147,13 @@ ended $? 'bin/rehearse --help does not help'
 
 evening=second-evening
 text=$(pwd)/examples/$evening.txt
+bytes=$(pwd)/examples/$evening.bin
 tried 'the notation' 0 "$cases/$evening.out" "*$evening.txt is in the notation" "$command" "$text"
 tried 'the notation from standard input' 0 "$cases/$evening.out" '*standard input is in the notation' \
     "$command" - <"$text"
 tried 'an explanation' 0 "examples/$evening.explained.txt" '*notation' "$command" --explain "$text"
 tried 'an explanation of bytes, the option last' 0 "examples/$evening.explained.txt" '*in bytes' "$command" \
-    "$cases/$evening.in" --explain
+    "$bytes" --explain
 tried 'a picture' 0 "$cases/$evening.out" '*notation' "$command" --picture "$work/evening.svg" "$text"
 cmp "examples/$evening.svg" "$work/evening.svg"
 ended $? 'bin/rehearse --picture writes another picture'
@@ -179,21 +188,21 @@ echo '0 31 0' >"$work/expected"
 tried 'a foreign playbook without its end' 0 "$work/expected" '*notation*foreign.txt, line 5: refused, a playbook *' \
     "$command" "$work/foreign.txt"
 # Every case has the form that it has: those without a visible character, or with a byte that no text has, are bytes.
-for input in "$cases"/*.in; do
+for input in "$inputs"/*.in; do
     name=$(basename "$input" .in)
     tried "case $name" 0 "$cases/$name.out" '*is in bytes' "$command" "$input"
 done
 
 # assemble and disassemble
 
-tried 'assemble' 0 "$cases/$evening.in" '' bin/assemble "$text"
+tried 'assemble' 0 "$bytes" '' bin/assemble "$text"
 tried 'assemble, a faulty text' 3 /dev/null '*faulty.txt, line 13: expected plan, change, end, *' \
     bin/assemble "$work/faulty.txt"
 tried 'assemble, no file' 2 /dev/null '*usage: *' bin/assemble
-bin/disassemble "$cases/$evening.in" >"$work/told.txt" 2>"$work/errors"
+bin/disassemble "$bytes" >"$work/told.txt" 2>"$work/errors"
 [ ! -s "$work/errors" ]
 ended $? 'bin/disassemble says something on standard error'
-tried 'disassemble, and assemble what it prints' 0 "$cases/$evening.in" '' bin/assemble - <"$work/told.txt"
+tried 'disassemble, and assemble what it prints' 0 "$bytes" '' bin/assemble - <"$work/told.txt"
 tried 'disassemble, too many bytes' 3 /dev/null '*million: expected at most 16384 bytes' \
     bin/disassemble "$work/million"
 bin/disassemble "$text" 2>&1 >"$work/told.txt" | grep -q 'txt looks like text, and is taken as bytes$'

@@ -10,9 +10,8 @@ import struct
 import subprocess
 import sys
 
-from paper import key, tag
-from rehearsals import RECORDS, begun
-from trials import read_first
+from paper import PLAYBOOK, SCRIPT, SHARE, is_sealed, key, read_first, record, record_at
+from rehearsals import begun
 
 # Of a record.
 MEANINGS = {
@@ -59,10 +58,10 @@ def undone(count):
 
 def fields(share):
     """The sender, the number and the rule of a share's bytes, or none where they are no share's."""
-    if share is None or share[0] != 2:
+    if share is None or share[0] != SHARE.number:
         return None
-    sender, number, prefix, length, port = struct.unpack(">xBxIIBH16x", share)
-    return sender, number, (prefix, length, port)
+    sender, _, number, *rule = SHARE.fields(share)
+    return sender, number, tuple(rule)
 
 
 def asked(call, given, share):
@@ -116,7 +115,7 @@ def giver(share):
     """The pair whose key gives a share's bytes their tag, in words."""
     for controller in range(16):
         for switch in range(16):
-            if tag(key(controller, switch), share[:14]) == share[14:]:
+            if is_sealed(key(controller, switch), share):
                 return ", tagged with the key of controller %d and switch %d" % (controller, switch)
     return ""
 
@@ -160,11 +159,11 @@ def wished(world, call, answer, switch, share, before, message):
 def words(world, s):
     """The record that s begins with, carried out: its length, or none where the run stops, its answer and figure, and
     its words."""
-    call, form = RECORDS.get(s[0], (None, ""))
-    if call is None or 1 + struct.calcsize(form) > len(s):
+    found = record_at(SCRIPT, s)
+    if found in (30, 31):
         _, answer, figure = world.record(s)
         return None, answer, figure, "here the script stops: refused, " + MEANINGS[answer]
-    given = struct.unpack_from(form, s, 1)
+    call, _, given = found
     kept = world.places[given[0]] if call == "deliver" and given[0] < 64 else None
     controller, switch = reached(call, given, kept[0] if kept else 16)
     known = world.known(switch, controller) and (call != "keep" or given[2] < 64)
@@ -199,9 +198,10 @@ def fault(s, answer):
         return told
     book, at, count = s[1:], 0, 0
     while True:
-        at += {0x11: 3, 0x12: 10}.get(book[at], 1)
+        found = record_at(PLAYBOOK, book[at:])
+        at += found[1] if found != 31 else 1
         count += 1
-        if read_first(book[:at] + b"\x13")[0] != 0:
+        if read_first(book[:at] + record("end"))[0] != 0:
             return told + ", in the playbook's record %d" % count
 
 

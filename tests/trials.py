@@ -5,139 +5,61 @@
 
 Nothing here is taken from the crates. Names and numbers are document 01's.
 """
-import hashlib
 import hmac
 import random
 import struct
 import sys
 
-from paper import well_formed
+from paper import (ACKNOWLEDGEMENT, EVENT, FRAME, KEY_LENGTH, SHARE, TAG_LENGTH, is_sealed, put, read_first, record,
+                   sealed, tag, unwritten)
 
-KEY = bytes([0x0B]) * 32
+# The key of every message here.
+KEY = bytes([0x0B]) * KEY_LENGTH
+KINDS = {kind.number: kind for kind in (EVENT, SHARE, ACKNOWLEDGEMENT)}
+NAMES = {1: "event", 2: "share", 3: "acknowledgement"}
 
 
 # Messages
 
-def tag(body):
-    return hmac.new(KEY, body, hashlib.sha256).digest()[:16]
-
-
-def sealed(s):
-    return len(s) >= 16 and s[-16:] == tag(s[:-16])
-
-
-def event(switch, controller, serial, cause):
-    body = struct.pack(">BBBIB", 1, switch, controller, serial, cause)
-    return body + tag(body)
-
-
-def share(controller, switch, number, prefix, length, port):
-    body = struct.pack(">BBBIIBH", 2, controller, switch, number, prefix, length, port)
-    return body + tag(body)
-
-
-def acknowledgement(switch, controller, number):
-    body = struct.pack(">BBBI", 3, switch, controller, number)
-    return body + tag(body)
+def message(kind, *fields):
+    return kind.made(KEY, *fields)
 
 
 def received(end, s):
-    kinds = {30: 2} if end == "S" else {24: 1, 23: 3}
+    kinds = {kind.length: kind for kind in ((SHARE,) if end == "S" else (EVENT, ACKNOWLEDGEMENT))}
     if len(s) not in kinds:
         text, answer = "refused 10", 10
-    elif s[0] != kinds[len(s)]:
+    elif s[0] != kinds[len(s)].number:
         text, answer = "refused 11", 11
-    elif s[0] == 1:
-        text, answer = "event %d %d %d %d" % struct.unpack(">BBIB", s[1:8]), 0
-    elif s[0] == 2:
-        text, answer = "share %d %d %d %d %d %d" % struct.unpack(">BBIIBH", s[1:14]), 0
     else:
-        text, answer = "acknowledgement %d %d %d" % struct.unpack(">BBI", s[1:7]), 0
-    return "%s answer %d%s" % (text, answer, " sealed" if sealed(s) else " not sealed")
+        name, fields = NAMES[s[0]], kinds[len(s)].fields(s)
+        text, answer = name + " %d" * len(fields) % fields, 0
+    return "%s answer %d%s" % (text, answer, " sealed" if is_sealed(KEY, s) else " not sealed")
 
 
 def written(length, offset, fields):
     """fields: kind, then the message's own; a share's action is 0 (remove) or 1 (set), then a port."""
-    frame = bytearray([0xEE]) * 48
-    message = None
-    answer = 0
-    if fields[0] == 1:
-        message = event(*fields[1:])
-    elif fields[0] == 2:
-        controller, switch, number, prefix, bits, action, port = fields[1:]
-        if action == 1 and port == 0:
-            answer = 15
-        message = share(controller, switch, number, prefix, bits, port if action else 0)
-    elif fields[0] == 3:
-        message = acknowledgement(*fields[1:])
-    else:
-        answer = 26
-    if answer == 0 and offset + len(message) > length:
+    frame, answer, (number, *fields) = unwritten(), 0, fields
+    kind = KINDS.get(number)
+    if kind is SHARE:
+        *fields, action, port = fields
+        answer = 15 if action == 1 and port == 0 else 0
+        fields.append(port if action else 0)
+    if answer == 0 and offset + (kind.length if kind else 0) > length:
         answer = 25
+    if answer == 0 and kind is None:
+        answer = 26
     if answer == 0:
-        frame[offset:offset + len(message)] = message
+        put(frame, offset, message(kind, *fields))
     return "written %d %s" % (answer, frame.hex())
 
 
 def write_case(length, offset, fields):
-    kind = fields[0]
-    if kind == 1:
-        packed = struct.pack(">BBIB", *fields[1:])
-    elif kind == 2:
-        packed = struct.pack(">BBIIBBH", *fields[1:])
-    elif kind == 3:
-        packed = struct.pack(">BBI", *fields[1:])
-    else:
-        packed = struct.pack(">B", fields[1])
-    return struct.pack(">BQB", length, offset, kind) + packed
+    form = {1: ">BBIB", 2: ">BBIIBBH", 3: ">BBI"}.get(fields[0], ">B")
+    return struct.pack(">BQB", length, offset, fields[0]) + struct.pack(form, *fields[1:])
 
 
 # Playbooks
-
-def read_first(s):
-    """The number, the bytes used, the plans (switch, cause, first, count) and the changes."""
-    plans, changes, at = [], [], 0
-
-    def refused(k):
-        return k, 0, [], []
-
-    while True:
-        if at >= len(s):
-            return refused(30)
-        kind = s[at]
-        if kind not in (0x11, 0x12, 0x13):
-            return refused(31)
-        if at + {0x11: 3, 0x12: 10, 0x13: 1}[kind] > len(s):
-            return refused(30)
-        if kind == 0x13:
-            return 0, at + 1, plans, changes
-        if kind == 0x11:
-            switch, cause = s[at + 1], s[at + 2]
-            if switch > 15:
-                return refused(12)
-            if any((p[0], p[1]) == (switch, cause) for p in plans):
-                return refused(35)
-            if len(plans) + 1 > 64:
-                return refused(36)
-            plans.append([switch, cause, len(changes), 0])
-            at += 3
-        else:
-            flow, switch, prefix, length, port = struct.unpack(">BBIBH", s[at + 1:at + 10])
-            if switch > 15:
-                return refused(12)
-            if not plans:
-                return refused(34)
-            if not well_formed(prefix, length):
-                return refused(15)
-            if len(changes) + 1 > 512 or plans[-1][3] + 1 > 32:
-                return refused(36)
-            seen = {(c[2], c[3]) for c in changes if c[1] == switch} | {(prefix, length)}
-            if len(seen) > 64:
-                return refused(37)
-            changes.append((flow, switch, prefix, length, port))
-            plans[-1][3] += 1
-            at += 10
-
 
 def read_whole(s):
     r = read_first(s)
@@ -158,14 +80,14 @@ def shown(switch, cause, s):
 
 
 def plan(switch, cause):
-    return struct.pack(">BBB", 0x11, switch, cause)
+    return record("plan", switch, cause)
 
 
 def change(flow, switch, prefix, length, port):
-    return struct.pack(">BBBIBH", 0x12, flow, switch, prefix, length, port)
+    return record("change", flow, switch, prefix, length, port)
 
 
-END = b"\x13"
+END = record("end")
 
 
 def prefix16(i):
@@ -193,10 +115,12 @@ CUT = b"S\x00\x05abcd"  # one byte short: "cut case"
 
 def messages():
     good = [
-        ("C", event(5, 2, 7, 9)), ("C", event(15, 0, 0xFFFFFFFF, 255)), ("C", event(255, 255, 0, 0)),
-        ("S", share(3, 14, 0x01020304, 0x0A000000, 8, 3)), ("S", share(0, 0, 0, 0, 0, 0)),
-        ("S", share(255, 255, 0xFFFFFFFF, 0xFFFFFFFF, 255, 0xFFFF)), ("S", share(1, 2, 3, 0x0A000001, 8, 256)),
-        ("C", acknowledgement(5, 2, 0x01020304)), ("C", acknowledgement(255, 255, 0xFFFFFFFF)),
+        ("C", message(EVENT, 5, 2, 7, 9)), ("C", message(EVENT, 15, 0, 0xFFFFFFFF, 255)),
+        ("C", message(EVENT, 255, 255, 0, 0)),
+        ("S", message(SHARE, 3, 14, 0x01020304, 0x0A000000, 8, 3)), ("S", message(SHARE, 0, 0, 0, 0, 0, 0)),
+        ("S", message(SHARE, 255, 255, 0xFFFFFFFF, 0xFFFFFFFF, 255, 0xFFFF)),
+        ("S", message(SHARE, 1, 2, 3, 0x0A000001, 8, 256)),
+        ("C", message(ACKNOWLEDGEMENT, 5, 2, 0x01020304)), ("C", message(ACKNOWLEDGEMENT, 255, 255, 0xFFFFFFFF)),
     ]
     yield from good
     # each good message at the other end, and with each other kind
@@ -205,7 +129,9 @@ def messages():
         for kind in (0, 1, 2, 3, 4, 0x11, 255):
             yield end, bytes([kind]) + s[1:]
     # every length around those that are expected, and none at all
-    for n in (0, 1, 15, 16, 17, 22, 23, 24, 25, 29, 30, 31, 32, 60):
+    most = SHARE.length
+    for n in (0, 1, TAG_LENGTH - 1, TAG_LENGTH, TAG_LENGTH + 1, ACKNOWLEDGEMENT.length - 1, ACKNOWLEDGEMENT.length,
+              EVENT.length, EVENT.length + 1, most - 1, most, most + 1, most + 2, 2 * most):
         for kind in (1, 2, 3):
             yield "S", bytes([kind]) * n
             yield "C", bytes([kind]) * n
@@ -214,33 +140,34 @@ def messages():
         for i in range(len(s)):
             yield end, s[:i] + bytes([s[i] ^ (1 << i % 8)]) + s[i + 1:]
     # the tag of other bytes, of all but the last byte, and of another key
-    body = event(5, 2, 7, 9)[:8]
-    yield "C", body + tag(body[1:])
-    yield "C", body + tag(body[:7])
-    yield "C", body + hmac.new(KEY[1:], body, hashlib.sha256).digest()[:16]
-    yield "C", body + hmac.new(KEY, body, hashlib.sha256).digest()[16:]
+    body = message(EVENT, 5, 2, 7, 9)[:EVENT.body]
+    yield "C", body + tag(KEY, body[1:])
+    yield "C", body + tag(KEY, body[:-1])
+    yield "C", sealed(KEY[1:], body)
+    yield "C", body + hmac.digest(KEY, body, "sha256")[-TAG_LENGTH:]
 
 
 def writings():
-    an_event = (1, 5, 2, 0x01020304, 9)
-    a_share = (2, 3, 14, 0x01020304, 0x0A0B0C00, 24, 1, 0x0102)
-    a_removal = (2, 3, 14, 0xFFFFFFFF, 0x0A000000, 8, 0, 77)
-    an_acknowledgement = (3, 5, 2, 0xFFFFFFFF)
-    for fields, size in ((an_event, 24), (a_share, 30), (a_removal, 30), (an_acknowledgement, 23)):
-        for offset in (0, 1, 48 - size):
-            yield 48, offset, fields
+    """The frame's length, the offset, and the kind with the fields."""
+    for fields in ((1, 5, 2, 0x01020304, 9), (2, 3, 14, 0x01020304, 0x0A0B0C00, 24, 1, 0x0102),
+                   (2, 3, 14, 0xFFFFFFFF, 0x0A000000, 8, 0, 77), (3, 5, 2, 0xFFFFFFFF)):
+        size = KINDS[fields[0]].length
+        last = FRAME - size
+        for offset in (0, 1, last):
+            yield FRAME, offset, fields
         yield size, 0, fields
         # one byte too few, at the start and at the end; past the end; the largest offsets
         yield size - 1, 0, fields
-        for offset in (48 - size + 1, 47, 48, 49, 2**32, 2**64 - size, 2**64 - 1):
-            yield 48, offset, fields
+        for offset in (last + 1, FRAME - 1, FRAME, FRAME + 1, 2**32, 2**64 - size, 2**64 - 1):
+            yield FRAME, offset, fields
         yield 0, 0, fields
-    # a malformed rule is written as it is; a set of port 0 is not, wherever it is put; a refusal is nothing to send
-    yield 48, 3, (2, 0, 0, 1, 0x0A000001, 33, 1, 5)
-    for offset in (0, 40, 2**64 - 1):
-        yield 48, offset, (2, 3, 14, 1, 0, 0, 1, 0)
-        yield 48, offset, (4, 10)
-        yield 48, offset, (4, 0)
+    # a malformed rule is written as it is; a set of port 0 is not, wherever it is put; a refusal is nothing to send, if
+    # its offset is not past the frame
+    yield FRAME, 3, (2, 0, 0, 1, 0x0A000001, 33, 1, 5)
+    for offset in (0, FRAME - 8, FRAME, FRAME + 1, 2**64 - 1):
+        yield FRAME, offset, (2, 3, 14, 1, 0, 0, 1, 0)
+        yield FRAME, offset, (4, 10)
+        yield FRAME, offset, (4, 0)
 
 
 def fullest():

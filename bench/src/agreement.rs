@@ -5,10 +5,11 @@ use crate::openssl::Openssl;
 use crate::rattle::Rattle;
 use crate::rust::Rust;
 use crate::sides::{Place, Side};
+use reference::drive;
 use reference::tag;
 
 /// A frame before anything is written into it.
-const FRAME: [u8; 64] = [0xee; 64];
+const FRAME: [u8; drive::FRAME] = [drive::UNWRITTEN; drive::FRAME];
 
 /// Stops the program where two sides differ.
 pub fn check(with: Option<&Openssl>, without: Option<&Openssl>) {

@@ -2,7 +2,9 @@
 
 use crate::sides::{AtController, AtSwitch, Trigger};
 use reference::flow::{Action, Rule};
-use reference::message::Message;
+use reference::message::{Message, KEY_LENGTH};
+use reference::playbook::{CHANGE_KIND, END_KIND, PLAN_KIND};
+use reference::rehearsal::{DECIDE, REPORT, SCRIPT, SEND};
 use reference::switch::quorum;
 
 /// The switch and the controller that are timed.
@@ -26,22 +28,15 @@ pub fn noise(seed: u64, length: usize) -> Vec<u8> {
 
 /// The key of a controller and a switch.
 fn key(controller: u8, switch: u8) -> Vec<u8> {
-    noise(u64::from(controller) * 16 + u64::from(switch), 32)
-}
-
-/// A message with its tag.
-fn sealed(message: Message, controller: u8, switch: u8) -> Vec<u8> {
-    let mut bytes = vec![0; message.kind().length()];
-    message.write(&key(controller, switch), &mut bytes);
-    bytes
+    noise(u64::from(controller) * 16 + u64::from(switch), KEY_LENGTH)
 }
 
 fn share(controller: u8, number: u32, rule: Rule) -> Vec<u8> {
-    sealed(Message::Share { controller, switch: SWITCH, number, rule }, controller, SWITCH)
+    Message::Share { controller, switch: SWITCH, number, rule }.sealed(&key(controller, SWITCH))
 }
 
 fn acknowledgement(switch: u8, number: u32) -> Vec<u8> {
-    sealed(Message::Acknowledgement { switch, controller: CONTROLLER, number }, CONTROLLER, switch)
+    Message::Acknowledgement { switch, controller: CONTROLLER, number }.sealed(&key(CONTROLLER, switch))
 }
 
 /// The prefix and length of one of 64 entries: in each pair the second lies under the first.
@@ -115,16 +110,16 @@ pub fn playbook(changes: usize, spread: bool) -> Vec<u8> {
     let mut bytes = Vec::new();
     for plan in 0..changes / PLAN {
         let Trigger { switch, cause } = trigger(plan);
-        bytes.extend([0x11, switch, cause]);
+        bytes.extend([PLAN_KIND, switch, cause]);
         for place in 0..PLAN {
             let (prefix, length) = entry((plan * PLAN + place) % 64);
-            bytes.extend([0x12, place as u8, if spread { switch } else { SWITCH }]);
+            bytes.extend([CHANGE_KIND, place as u8, if spread { switch } else { SWITCH }]);
             bytes.extend(prefix.to_be_bytes());
             bytes.push(length);
             bytes.extend((plan as u16 + 1).to_be_bytes());
         }
     }
-    bytes.push(0x13);
+    bytes.push(END_KIND);
     bytes
 }
 
@@ -142,19 +137,19 @@ pub fn controller(n: u8, book: Vec<u8>) -> AtController {
 pub fn rehearsal(n: u8) -> Vec<u8> {
     let mut script = Vec::new();
     let mut serial = 0u32;
-    while script.len() < 8192 {
+    while script.len() < SCRIPT {
         let Trigger { switch, cause } = trigger(serial as usize % 64);
         serial += 1;
         for controller in 0..n {
-            script.extend([0x21, controller, switch]);
+            script.extend([DECIDE, controller, switch]);
             script.extend(serial.to_be_bytes());
             script.push(cause);
         }
         for _ in 0..PLAN {
-            (0..quorum(n) as u8).for_each(|controller| script.extend([0x22, controller, switch]));
-            (0..n).for_each(|controller| script.extend([0x23, switch, controller]));
+            (0..quorum(n) as u8).for_each(|controller| script.extend([SEND, controller, switch]));
+            (0..n).for_each(|controller| script.extend([REPORT, switch, controller]));
         }
     }
-    script.truncate(8192);
+    script.truncate(SCRIPT);
     [vec![n], playbook(512, true), script].concat()
 }

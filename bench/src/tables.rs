@@ -6,6 +6,7 @@ use crate::openssl::Openssl;
 use crate::rattle::Rattle;
 use crate::rust::Rust;
 use crate::sides::{mix, Place, Side, Trigger};
+use reference::drive::FRAME;
 
 /// How many messages a run receives before it starts again from the same state.
 const MESSAGES: usize = 512;
@@ -13,7 +14,7 @@ const MESSAGES: usize = 512;
 /// The step between addresses that are looked up; it goes all over the address space.
 const STEP: u32 = 0x9e37_79b1;
 
-/// An offset in a frame of 64 bytes.
+/// An offset in a frame.
 const PLACE: Place = Place { receiver: 3, at: 7 };
 
 /// A trigger's switch past the last one: decisions are refused right after question 20.
@@ -156,9 +157,9 @@ fn at_a_switch(rounds: Rounds) {
     let shares = inputs::singles(4, 32, MESSAGES);
     row("the same, all held", rounds, MESSAGES, &|side, times| side.received(&switch, &shares, times));
     row("an acknowledgement written", rounds, 1, &|side, times| {
-        side.written(&switch, false, PLACE, &mut [0; 64], times)
+        side.written(&switch, false, PLACE, &mut [0; FRAME], times)
     });
-    row("an event written", rounds, 1, &|side, times| side.written(&switch, true, PLACE, &mut [0; 64], times));
+    row("an event written", rounds, 1, &|side, times| side.written(&switch, true, PLACE, &mut [0; FRAME], times));
     let full = inputs::switch(4, 64);
     row("lookup at a switch, 64 entries", rounds, 1, &|side, times| side.looked_up(&full, STEP, times));
     row("lookup in its table (no question 20)", rounds, 1, &|side, times| side.forwarded(&full, STEP, times));
@@ -181,7 +182,7 @@ fn at_a_controller(rounds: Rounds) {
     });
     let place = Place { receiver: trigger.switch, at: 7 };
     row("a share made, 32 undone", rounds, 1, &|side, times| {
-        side.share_written(&controller, trigger, 4, place, &mut [0; 64], times)
+        side.share_written(&controller, trigger, 4, place, &mut [0; FRAME], times)
     });
 }
 
@@ -193,7 +194,7 @@ pub fn question(rounds: Rounds) {
         let switch = inputs::switch(4, entries);
         let nobody = Place { receiver: 255, at: 0 };
         row(&format!("a switch with {entries} entries"), rounds, 1, &|side, times| {
-            side.written(&switch, false, nobody, &mut [0; 64], times)
+            side.written(&switch, false, nobody, &mut [0; FRAME], times)
         });
     }
     for (changes, spread) in [(0, true), (256, true), (512, true), (512, false)] {
@@ -207,7 +208,7 @@ pub fn question(rounds: Rounds) {
     let trigger = inputs::last_trigger(512);
     let nobody = Place { receiver: 16, at: 0 };
     row("a controller, 512 changes listed, 64 undone", rounds, 1, &|side, times| {
-        side.share_written(&controller, trigger, 8, nobody, &mut [0; 64], times)
+        side.share_written(&controller, trigger, 8, nobody, &mut [0; FRAME], times)
     });
     println!();
 }
@@ -246,7 +247,7 @@ pub fn growth(rounds: Rounds) {
         let place = Place { receiver: n - 1, at: 7 };
         let columns: [Column; 2] = [
             ("a share", each, Box::new(|side, times| side.received(&switch, &shares, times))),
-            ("an acknowledgement", 1, Box::new(|s, t| s.written(&switch, false, place, &mut [0; 64], t))),
+            ("an acknowledgement", 1, Box::new(|s, t| s.written(&switch, false, place, &mut [0; FRAME], t))),
         ];
         grown(n.into(), rounds, &columns);
     }
@@ -279,7 +280,7 @@ pub fn growth(rounds: Rounds) {
                 MESSAGES,
                 Box::new(|side, times| side.acknowledged(&controller, trigger, 1, &acknowledgements, times)),
             ),
-            ("a share made", 1, Box::new(|s, t| s.share_written(&controller, trigger, 1, place, &mut [0; 64], t))),
+            ("a share made", 1, Box::new(|s, t| s.share_written(&controller, trigger, 1, place, &mut [0; FRAME], t))),
         ];
         grown(changes, rounds, &columns);
     }

@@ -12,8 +12,11 @@ use libc::STDOUT_FILENO;
 use lists::byte_at;
 pub use prose::say;
 
+// How many bytes a frame has into which a message is written.
+pub const FRAME: usize = 64;
+
 // A number, with a space before it.
-pub fn say_number(n: u64) {
+fn say_number(n: u64) {
     say(b" ");
     prose::say_number(n);
 }

@@ -19,7 +19,7 @@ fn say_plan(i: usize, q: Plan) {
 fn say_plans(book: Playbook) {
     let plans = book.plans;
     let mut i: usize = 0;
-    while i < 64 {
+    while i < playbook::limits::PLANS {
         let q = plans[i];
         if q.switch != 0 || q.cause != 0 || q.first != 0 || q.count != 0 {
             say_plan(i, q);
@@ -49,7 +49,7 @@ fn say_change(i: usize, x: Change) {
 fn say_changes(book: Playbook) {
     let changes = book.changes;
     let mut i: usize = 0;
-    while i < 512 {
+    while i < playbook::limits::CHANGES {
         let x = changes[i];
         if !change_empty(x) {
             say_change(i, x);

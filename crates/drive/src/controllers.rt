@@ -3,6 +3,7 @@ use crate::books;
 use crate::frames;
 use crate::stores;
 use crate::stores::Store;
+use answer::limits;
 use cases::action_of;
 use cases::say;
 use cases::say_byte;
@@ -48,7 +49,7 @@ fn say_held(held: Held) {
     say(b" count");
     say_size(held.count);
     let mut i: usize = 0;
-    while i < 64 {
+    while i < limits::UNDONE {
         let u = changes[i];
         if !undone_empty(u) {
             say_undone(i, u);
@@ -58,9 +59,9 @@ fn say_held(held: Held) {
 }
 
 // The numbers above 0, each after its place.
-fn say_numbers(name: &[u8], numbers: [u32; 16]) {
+fn say_numbers(name: &[u8], numbers: [u32; limits::OF_SWITCHES]) {
     let mut i: usize = 0;
-    while i < 16 {
+    while i < limits::OF_SWITCHES {
         let k = numbers[i];
         if k != 0 {
             say(name);
@@ -130,7 +131,7 @@ fn decide(c: Controller, body: &[u8]) -> Controller {
 fn write(c: Controller, keys: &[u8], body: &[u8]) -> Controller {
     let switch = byte_at(body, 1);
     let at = frames::offset_of(body);
-    let n = frames::lent_of(body);
+    let n = frames::lent_of(body, frames::SIZE);
     let mut frame = [0xeeu8; frames::SIZE];
     let r = controller::write_share(c, keys, switch, &mut frame[0..n], at);
     say(b" written");
@@ -178,7 +179,7 @@ fn with_undone(c: Controller, i: usize, b: &[u8]) -> Controller {
         rule: rule,
     };
     let mut held = c.progress.undone;
-    if i < 64 {
+    if i < limits::UNDONE {
         held.changes[i] = u;
     }
     with_held(c, held)
@@ -198,7 +199,7 @@ fn with_plan(c: Controller, i: usize, b: &[u8]) -> Controller {
         count: byte_at(b, 6) as usize,
     };
     let mut book = c.playbook;
-    if i < 64 {
+    if i < playbook::limits::PLANS {
         book.plans[i] = q;
     }
     let mut next = c;
@@ -215,7 +216,7 @@ fn with_change(c: Controller, b: &[u8]) -> Controller {
         rule: rule,
     };
     let mut book = c.playbook;
-    if i < 512 {
+    if i < playbook::limits::CHANGES {
         book.changes[i] = x;
     }
     let mut next = c;
@@ -241,7 +242,7 @@ fn with_last(c: Controller, k: u32) -> Controller {
 
 fn with_acknowledged(c: Controller, i: usize, k: u32) -> Controller {
     let mut p = c.progress;
-    if i < 16 {
+    if i < limits::OF_SWITCHES {
         p.acknowledged[i] = k;
     }
     with_progress(c, p)
@@ -249,7 +250,7 @@ fn with_acknowledged(c: Controller, i: usize, k: u32) -> Controller {
 
 fn with_serial(c: Controller, i: usize, k: u32) -> Controller {
     let mut p = c.progress;
-    if i < 16 {
+    if i < limits::OF_SWITCHES {
         p.serials[i] = k;
     }
     with_progress(c, p)

@@ -6,7 +6,7 @@ use cases::u32_at;
 use lists::byte_at;
 
 // How many bytes the frame has.
-pub(crate) const SIZE: usize = 48;
+pub(crate) const SIZE: usize = cases::FRAME;
 
 pub(crate) fn at_most(n: usize, limit: usize) -> usize
     ensures { λ r. ⌜ r ≤ limit ⌝ }
@@ -14,11 +14,11 @@ pub(crate) fn at_most(n: usize, limit: usize) -> usize
     if n < limit { n } else { limit }
 }
 
-// How many of its bytes are lent: as many as the body's first byte says.
-pub(crate) fn lent_of(body: &[u8]) -> usize
-    ensures { λ r. ⌜ r ≤ 48 ⌝ }
+// How many bytes of a frame of this size are lent: as many as the body's first byte says, or all.
+pub(crate) fn lent_of(body: &[u8], size: usize) -> usize
+    ensures { λ r. ⌜ r ≤ size ⌝ }
 {
-    at_most(byte_at(body, 0) as usize, SIZE)
+    at_most(byte_at(body, 0) as usize, size)
 }
 
 // The offset, eight bytes after the receiver's.

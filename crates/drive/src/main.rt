@@ -8,6 +8,7 @@ mod switches;
 
 ghost use mathlib.Core.Path.{_≡_};
 ghost use lib.ListN.{length};
+use answer::limits;
 use cases::say;
 use cases::say_byte;
 use cases::say_size;
@@ -24,10 +25,10 @@ const SCRIPT: usize = 1048577;
 
 // The ends, the key store of each, and the playbook read last.
 struct World {
-    switches: [Switch; 16],
-    controllers: [Controller; 16],
-    switch_keys: [Store; 16],
-    controller_keys: [Store; 16],
+    switches: [Switch; limits::OF_SWITCHES],
+    controllers: [Controller; limits::OF_CONTROLLERS],
+    switch_keys: [Store; limits::OF_SWITCHES],
+    controller_keys: [Store; limits::OF_CONTROLLERS],
     book: Playbook,
 }
 
@@ -126,10 +127,10 @@ fn begun() -> World {
     let c = second.state;
     let store = stores::empty();
     World {
-        switches: [s; 16],
-        controllers: [c; 16],
-        switch_keys: [store; 16],
-        controller_keys: [store; 16],
+        switches: [s; limits::OF_SWITCHES],
+        controllers: [c; limits::OF_CONTROLLERS],
+        switch_keys: [store; limits::OF_SWITCHES],
+        controller_keys: [store; limits::OF_CONTROLLERS],
         book: book,
     }
 }
@@ -148,7 +149,7 @@ fn follow(script: &[u8]) {
         }
         let body = &from[0..n];
         let i = end as usize;
-        if 16 <= i {
+        if limits::OF_SWITCHES <= i {
             say_unknown(letter);
             rest = &from[n..];
         } else {

@@ -4,6 +4,7 @@ ghost use Rattle.switch.specs.Raising.{nextEvent};
 use crate::frames;
 use crate::stores;
 use crate::stores::Store;
+use answer::limits;
 use cases::action_of;
 use cases::say;
 use cases::say_byte;
@@ -46,7 +47,7 @@ fn say_table(table: Table) {
     say(b" count");
     say_size(table.count);
     let mut i: usize = 0;
-    while i < 64 {
+    while i < limits::ENTRIES {
         let e = entries[i];
         if !entry_empty(e) {
             say_entry(i, e);
@@ -75,7 +76,7 @@ fn slot_empty(slot: Slot) -> bool {
 fn say_slots(s: Switch) {
     let slots = s.slots;
     let mut i: usize = 0;
-    while i < 16 {
+    while i < limits::OF_CONTROLLERS {
         let slot = slots[i];
         if !slot_empty(slot) {
             say_slot(i, slot);
@@ -157,7 +158,7 @@ fn write_into(s: Switch, event: bool, keys: &[u8], c: u8, frame: &mut [u8], at: 
 fn write(s: Switch, event: bool, keys: &[u8], body: &[u8]) -> Switch {
     let c = byte_at(body, 1);
     let at = frames::offset_of(body);
-    let n = frames::lent_of(body);
+    let n = frames::lent_of(body, frames::SIZE);
     let mut frame = [0xeeu8; frames::SIZE];
     let r = write_into(s, event, keys, c, &mut frame[0..n], at);
     say(b" written");
@@ -213,7 +214,7 @@ fn with_slot(s: Switch, i: usize, b: &[u8]) -> Switch {
         rule: rule,
     };
     let mut next = s;
-    if i < 16 {
+    if i < limits::OF_CONTROLLERS {
         next.slots[i] = slot;
     }
     next
@@ -226,7 +227,7 @@ fn with_entry(s: Switch, i: usize, b: &[u8]) -> Switch {
         port: u16_at(b, 7),
     };
     let mut table = s.table;
-    if i < 64 {
+    if i < limits::ENTRIES {
         table.entries[i] = e;
     }
     let mut next = s;

@@ -23,6 +23,9 @@ use playbook::Playbook;
 // The key of every message here.
 const KEY: [u8; 32] = [0x0b; 32];
 
+// How many bytes a frame has at most.
+const FRAME: usize = cases::FRAME;
+
 fn say_message(m: Message) {
     match m {
         Message::Event {
@@ -140,9 +143,9 @@ fn write_into(frame: &mut [u8], s: &[u8]) -> u8 {
     }
 }
 
-// A message written into a frame of up to 48 bytes, and the whole frame afterwards.
+// A message written into a frame, and the whole frame afterwards.
 fn write(s: &[u8]) {
-    let mut space = [0xeeu8; 48];
+    let mut space = [0xeeu8; FRAME];
     let answer = write_into(&mut space, s);
     say(b"written");
     say_byte(answer);
@@ -170,7 +173,7 @@ fn say_plans(p: Playbook) {
     let plans = p.plans;
     let n = p.planned;
     let mut i: usize = 0;
-    while i < 64 {
+    while i < playbook::limits::PLANS {
         if i < n {
             let q = plans[i];
             say_plan(q);
@@ -183,7 +186,7 @@ fn say_changes(p: Playbook) {
     let changes = p.changes;
     let n = p.listed;
     let mut i: usize = 0;
-    while i < 512 {
+    while i < playbook::limits::CHANGES {
         if i < n {
             let c = changes[i];
             say_change(c);
@@ -235,7 +238,7 @@ fn show(s: &[u8]) {
 
 fn with_plan(p: Playbook, at: usize, q: Plan) -> Playbook {
     let mut next = p;
-    if at < 64 {
+    if at < playbook::limits::PLANS {
         next.plans[at] = q;
     }
     next
@@ -243,7 +246,7 @@ fn with_plan(p: Playbook, at: usize, q: Plan) -> Playbook {
 
 fn with_change(p: Playbook, at: usize, c: Change) -> Playbook {
     let mut next = p;
-    if at < 512 {
+    if at < playbook::limits::CHANGES {
         next.changes[at] = c;
     }
     next

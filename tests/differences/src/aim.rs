@@ -1,11 +1,14 @@
 //! The steps of a script, each a call or a few that belong together: messages with good tags from states as they are,
 //! damage, decisions, writing into frames, lookups, odd key stores, odd setups, playbooks, and calls that are none.
 
-use crate::body::{kept, rule, tag_again, Body, ACKNOWLEDGEMENT, EVENT, SHARE};
-use crate::books::{at_a_limit, encoded, faulty, ill_formed, pair};
+use crate::body::{frame, kept, rule, tag_again, whole_frame, Body, RULE};
+use crate::books::{at_a_limit, encoded, faulty, ill_formed, pair, Record};
 use crate::domain::{Domain, Sent};
 use crate::script::Reply;
+use reference::drive::FRAME;
 use reference::flow::{Action, Rule};
+use reference::message::{ACKNOWLEDGEMENT_LENGTH as ACKNOWLEDGEMENT, EVENT_LENGTH as EVENT, SHARE_LENGTH as SHARE};
+use reference::tag::TAG_LENGTH as TAG;
 
 const TOP: u32 = u32::MAX;
 
@@ -16,11 +19,6 @@ fn beside(d: &mut Domain, number: u32) -> u32 {
         1 | 2 => number,
         _ => number.saturating_add(1),
     }
-}
-
-/// A frame's length, a receiver and an offset, as the three writes take them.
-fn frame(length: u8, receiver: u8, offset: u64) -> Vec<u8> {
-    Body::new().byte(length).byte(receiver).wide(offset).0
 }
 
 /// A message out of a frame that was written, if it was.
@@ -52,7 +50,7 @@ fn damaged(d: &mut Domain, sent: &Sent) -> Sent {
         }
         4 => bytes[0] = random.pick(&[0, 1, 2, 3, 4, 0x12, 255]),
         5 => bytes[last] ^= 1 << random.below(8),
-        6 => bytes[last - 15.min(last)] ^= 1 << random.below(8),
+        6 => bytes[last - (TAG - 1).min(last)] ^= 1 << random.below(8),
         7 => {
             // Another sender, known or not, under the key of the first.
             bytes[1.min(last)] = random.pick(&[0, 1, d.n.wrapping_sub(1), d.n, 15, 16, 255]);
@@ -80,7 +78,7 @@ fn damaged(d: &mut Domain, sent: &Sent) -> Sent {
         12 => {
             // Two bytes of the tag exchanged, or two differences that cancel.
             let flip = 1 << random.below(8);
-            let (one, other) = (random.below(16).min(last), random.below(16).min(last));
+            let (one, other) = (random.below(TAG).min(last), random.below(TAG).min(last));
             bytes[last - one] ^= flip;
             bytes[last - other] ^= flip;
         }
@@ -88,7 +86,7 @@ fn damaged(d: &mut Domain, sent: &Sent) -> Sent {
             // A share's rule, kept under a good tag.
             if bytes.len() == SHARE {
                 let bad = Body::new().carried(ill_formed(random)).0;
-                bytes[7..14].copy_from_slice(&bad);
+                bytes[RULE].copy_from_slice(&bad);
                 again = true;
             }
         }
@@ -272,8 +270,8 @@ pub fn written_share(d: &mut Domain) {
     let state = d.script.controller(controller);
     let undone: Vec<u8> = state.undone.changes[..state.undone.count.min(64)].iter().map(|u| u.switch).collect();
     let switch = if undone.is_empty() || d.random.once_in(6) { d.some_switch() } else { d.random.pick(&undone) };
-    let offset = d.random.pick(&[0, 0, 0, 5, 18]);
-    let reply = d.call(b'w', controller, &frame(48, switch, offset));
+    let offset = d.random.pick(&[0, 0, 0, 5, (FRAME - SHARE) as u64]);
+    let reply = d.call(b'w', controller, &whole_frame(switch, offset));
     if let Some(bytes) = written(&reply, offset, SHARE) {
         if switch < 16 && d.few.switches.contains(&switch) {
             send(d, true, switch, bytes);
@@ -284,8 +282,8 @@ pub fn written_share(d: &mut Domain) {
 /// An acknowledgement the switch writes, delivered.
 pub fn written_acknowledgement(d: &mut Domain) {
     let (switch, controller) = (d.some_switch(), d.some_controller());
-    let offset = d.random.pick(&[0, 0, 1, 25]);
-    let reply = d.call(b'A', switch, &frame(48, controller, offset));
+    let offset = d.random.pick(&[0, 0, 1, (FRAME - ACKNOWLEDGEMENT) as u64]);
+    let reply = d.call(b'A', switch, &whole_frame(controller, offset));
     if let Some(bytes) = written(&reply, offset, ACKNOWLEDGEMENT) {
         send(d, false, controller, bytes);
     }
@@ -299,8 +297,8 @@ pub fn written_event(d: &mut Domain) {
     if !d.random.once_in(4) {
         d.call(letter, switch, &[cause]);
     }
-    let offset = d.random.pick(&[0, 0, 2, 24]);
-    let reply = d.call(b'E', switch, &frame(48, controller, offset));
+    let offset = d.random.pick(&[0, 0, 2, (FRAME - EVENT) as u64]);
+    let reply = d.call(b'E', switch, &whole_frame(controller, offset));
     if let Some(bytes) = written(&reply, offset, EVENT) {
         send(d, false, controller, bytes);
     }
@@ -354,7 +352,9 @@ pub fn from_pool(d: &mut Domain) {
 
 /// Bytes of odd lengths, with a kind or without.
 pub fn odd_bytes(d: &mut Domain) {
-    let length = d.random.pick(&[0, 1, 15, 16, 17, 22, 23, 24, 25, 29, 30, 31, 32, 33, 255, 300]);
+    let around = [TAG - 1, TAG, TAG + 1, ACKNOWLEDGEMENT - 1, ACKNOWLEDGEMENT, EVENT, EVENT + 1];
+    let beyond = [SHARE - 1, SHARE, SHARE + 1, SHARE + 2, SHARE + 3, 255, 300];
+    let length = d.random.pick(&[&[0, 1], &around[..], &beyond].concat());
     let mut bytes = d.random.bytes(length);
     if let Some(kind) = bytes.first_mut().filter(|_| length > 0) {
         *kind = d.random.pick(&[1, 2, 3, 3, 0x82]);
@@ -428,15 +428,16 @@ pub fn full_undone(d: &mut Domain) {
     let before = d.book.clone();
     let (one, many) = (d.random.pick(&[0, 1, 2, 30, 31]), d.random.pick(&[31, 32, 32]));
     let switches: Vec<u8> = (0..3).map(|_| d.some_switch()).collect();
-    let mut book = Body::new();
+    let mut book = Vec::new();
     for (cause, count) in [(1, 1), (2, one), (3, many)] {
-        book = book.byte(0x11).byte(switches[0]).byte(cause);
+        book.push(Record::Plan { switch: switches[0], cause });
         for _ in 0..count {
             let (switch, rule) = (d.random.pick(&switches), d.some_rule());
-            book = book.byte(0x12).byte(d.random.byte() % 3).byte(switch).carried(rule);
+            book.push(Record::Change { flow: d.random.byte() % 3, switch, rule });
         }
     }
-    d.book = book.byte(0x13).0;
+    book.push(Record::End);
+    d.book = encoded(&book);
     d.read_book();
     d.set_up_controller(controller);
     for _ in 0..d.random.between(4, 20) {
@@ -453,7 +454,7 @@ pub fn full_undone(d: &mut Domain) {
         }
         if d.random.once_in(3) {
             let switch = d.random.pick(&switches);
-            d.call(b'w', controller, &frame(48, switch, 0));
+            d.call(b'w', controller, &whole_frame(switch, 0));
         }
     }
     // A lagging controller: changes that are done as they are decided take no place.
@@ -463,7 +464,7 @@ pub fn full_undone(d: &mut Domain) {
     let serial = d.script.controller(controller).serials[switches[0] as usize].saturating_add(1);
     d.call(b'd', controller, &decision(switches[0], serial, 3));
     for &switch in &switches {
-        d.call(b'w', controller, &frame(48, switch, 0));
+        d.call(b'w', controller, &whole_frame(switch, 0));
     }
     d.book = before;
 }
@@ -474,16 +475,19 @@ pub fn full_undone(d: &mut Domain) {
 pub fn odd_frame(d: &mut Domain) {
     let (letter, size) = d.random.pick(&[(b'E', EVENT), (b'A', ACKNOWLEDGEMENT), (b'w', SHARE)]);
     let length = match d.random.below(4) {
-        0 => d.random.pick(&[0, 1, 22, 23, 24, 29, 30, 31, 47, 48, 49, 255]),
-        1 => size as u8,
-        _ => d.random.below(49) as u8,
+        0 => {
+            let around = [ACKNOWLEDGEMENT - 1, ACKNOWLEDGEMENT, EVENT, SHARE - 1, SHARE, SHARE + 1];
+            d.random.pick(&[&[0, 1], &around[..], &[FRAME - 1, FRAME, FRAME + 1, 255]].concat())
+        }
+        1 => size,
+        _ => d.random.below(FRAME + 1),
     };
-    let room = u64::from(length.min(48));
+    let room = length.min(FRAME) as u64;
     let size = size as u64;
     let offset = match d.random.below(10) {
         0 => room,
         1 => room + 1,
-        2 => d.random.pick(&[48, 49, 1 << 31, 1 << 32, (1 << 32) - size, 1 << 63]),
+        2 => d.random.pick(&[FRAME as u64, FRAME as u64 + 1, 1 << 31, 1 << 32, (1 << 32) - size, 1 << 63]),
         3 => d.random.pick(&[u64::MAX, u64::MAX - 1, u64::MAX - size, u64::MAX - size + 1, u64::MAX - size + 2]),
         4 => d.random.next(),
         5 => 0,
@@ -549,9 +553,9 @@ pub fn odd_store(d: &mut Domain) {
         let rule = d.some_rule();
         let bytes = d.share(controller, switch, last.saturating_add(1), rule);
         d.call(b'M', switch, &bytes);
-        d.call(b'M', switch, &bytes[..29]);
+        d.call(b'M', switch, &bytes[..SHARE - 1]);
         let letter = d.random.pick(b"EA");
-        d.call(letter, switch, &frame(48, controller, 0));
+        d.call(letter, switch, &whole_frame(controller, 0));
         d.call(b'R', switch, &[1]);
         d.call(b'K', switch, &good);
     } else {
@@ -564,7 +568,7 @@ pub fn odd_store(d: &mut Domain) {
         let bytes = d.acknowledgement(switch, controller, 1);
         d.call(b'm', controller, &bytes);
         d.call(b'm', controller, &bytes[1..]);
-        d.call(b'w', controller, &frame(48, switch, 0));
+        d.call(b'w', controller, &whole_frame(switch, 0));
         decide(d);
         d.call(b'k', controller, &good);
     }

@@ -2,13 +2,14 @@
 //! it, and the field is put back. Alterations that need something to alter, such as an undone change, wait for it.
 
 use crate::aim;
-use crate::body::{rule, Body};
+use crate::body::{rule, whole_frame, Body};
 use crate::books::{self, encoded, ill_formed};
 use crate::domain::Domain;
 use reference::controller::{Controller, Undone};
+use reference::drive::{values, Field, Part, Values, BOOK, CONTROLLER, SWITCH};
 use reference::flow::{Action, Entry, Rule};
 use reference::playbook::{Change, Plan};
-use reference::switch::{Slot, Switch};
+use reference::switch::{Raised, Slot, Switch};
 
 const TOP: u32 = u32::MAX;
 
@@ -29,75 +30,60 @@ fn bad(name: &'static str, bodies: Vec<Vec<u8>>) -> Option<Altered> {
 
 // Bodies of the calls that alter
 
+/// A field by its name, its place where it has places, and what it becomes.
+fn alter<S>(fields: &[Field<S>], name: &str, place: usize, values: Values) -> Vec<u8> {
+    let field = Field::named(fields, name).unwrap_or_else(|| panic!("drive has no field {name}"));
+    field.body(place, values)
+}
+
+fn byte<S>(fields: &[Field<S>], name: &str, value: u8) -> Vec<u8> {
+    alter(fields, name, 0, value.values())
+}
+
+fn last<S>(fields: &[Field<S>], number: u32) -> Vec<u8> {
+    alter(fields, "last", 0, number.values())
+}
+
 fn slot(place: usize, slot: Slot) -> Vec<u8> {
-    Body::new().byte(4).byte(place as u8).long(slot.number).held(slot.rule).0
+    alter(SWITCH, "slot", place, slot.values())
 }
 
 fn entry(place: usize, entry: Entry) -> Vec<u8> {
-    Body::new().byte(5).byte(place as u8).long(entry.prefix).byte(entry.length).short(entry.port).0
+    alter(SWITCH, "entry", place, entry.values())
+}
+
+fn acknowledged(switch: usize, number: u32) -> Vec<u8> {
+    alter(CONTROLLER, "acknowledged", switch, number.values())
+}
+
+fn serial(switch: usize, serial: u32) -> Vec<u8> {
+    alter(CONTROLLER, "serial", switch, serial.values())
 }
 
 fn undone(place: usize, change: Undone) -> Vec<u8> {
-    let fields = Body::new().byte(5).byte(place as u8).long(change.number).long(change.first);
-    fields.byte(change.flow).byte(change.switch).held(change.rule).0
+    alter(CONTROLLER, "undone", place, change.values())
 }
 
 fn counts(plans: usize, changes: usize) -> Vec<u8> {
-    Body::new().byte(7).byte(plans as u8).short(changes as u16).0
+    alter(BOOK, "counts", 0, values([plans as u32, changes as u32]))
 }
 
 fn plan(place: usize, plan: Plan) -> Vec<u8> {
-    let fields = Body::new().byte(8).byte(place as u8).byte(plan.switch).byte(plan.cause);
-    fields.short(plan.first as u16).byte(plan.count as u8).0
+    alter(BOOK, "plan", place, plan.values())
 }
 
 fn change(place: usize, change: Change) -> Vec<u8> {
-    Body::new().byte(9).short(place as u16).byte(change.flow).byte(change.switch).held(change.rule).0
+    alter(BOOK, "change", place, change.values())
 }
 
-fn number(field: u8, value: u32) -> Vec<u8> {
-    Body::new().byte(field).long(value).0
+/// Does a body alter one of these fields?
+fn is_of<S>(fields: &[Field<S>], names: &[&str], body: &[u8]) -> bool {
+    Field::altered(fields, body).is_some_and(|field| names.contains(&field.name))
 }
 
-fn of_switch(field: u8, switch: usize, value: u32) -> Vec<u8> {
-    Body::new().byte(field).byte(switch as u8).long(value).0
-}
-
-/// The body that gives a field of a switch back the value it has now.
-fn restoring_switch(state: &Switch, body: &[u8]) -> Option<Vec<u8>> {
-    let place = *body.get(1)? as usize;
-    Some(match body[0] {
-        0 => vec![0, state.id],
-        1 => vec![1, state.n],
-        2 => number(2, state.last),
-        3 => Body::new().byte(3).long(state.raised.serial).byte(state.raised.cause).0,
-        4 => slot(place, *state.slots.get(place)?),
-        5 => entry(place, *state.table.entries.get(place)?),
-        6 => vec![6, state.table.count as u8],
-        _ => return None,
-    })
-}
-
-/// The same for a controller.
-fn restoring_controller(state: &Controller, body: &[u8]) -> Option<Vec<u8>> {
-    let place = *body.get(1)? as usize;
-    let book = &state.playbook;
-    Some(match body[0] {
-        0 => vec![0, state.id],
-        1 => vec![1, state.n],
-        2 => number(2, state.last),
-        3 => of_switch(3, place, *state.acknowledged.get(place)?),
-        4 => of_switch(4, place, *state.serials.get(place)?),
-        5 => undone(place, *state.undone.changes.get(place)?),
-        6 => vec![6, state.undone.count as u8],
-        7 => counts(book.planned, book.listed),
-        8 => plan(place, *book.plans.get(place)?),
-        9 => {
-            let place = place * 256 + *body.get(2)? as usize;
-            change(place, *book.changes.get(place)?)
-        }
-        _ => return None,
-    })
+/// The body that gives a field back the value it has now.
+fn restoring<S>(fields: &[Field<S>], state: &S, body: &[u8]) -> Option<Vec<u8>> {
+    Field::altered(fields, body)?.restoring(state, body)
 }
 
 /// Some rule that is not all zero, well formed or not.
@@ -123,20 +109,20 @@ fn bad_rule(d: &mut Domain) -> Rule {
 fn switch_numbers(d: &mut Domain, s: &Switch) -> Option<Altered> {
     let lowest = s.slots.iter().map(|slot| slot.number).filter(|&number| number > 0).min();
     match d.random.below(9) {
-        0 => good("switch id in range", vec![vec![0, d.random.below(16) as u8]]),
-        1 => bad("switch id out of range", vec![vec![0, d.random.pick(&[16, 17, 255])]]),
-        2 => bad("switch n out of range", vec![vec![1, d.random.pick(&[0, 17, 18, 255])]]),
-        3 => good("switch n larger", vec![vec![1, d.random.between(s.n as usize, 16) as u8]]),
+        0 => good("switch id in range", vec![byte(SWITCH, "id", d.random.below(16) as u8)]),
+        1 => bad("switch id out of range", vec![byte(SWITCH, "id", d.random.pick(&[16, 17, 255]))]),
+        2 => bad("switch n out of range", vec![byte(SWITCH, "n", d.random.pick(&[0, 17, 18, 255]))]),
+        3 => good("switch n larger", vec![byte(SWITCH, "n", d.random.between(s.n as usize, 16) as u8)]),
         4 => {
             let held = s.slots.iter().rposition(|slot| slot.number > 0)?;
-            bad("switch n below a held share", vec![vec![1, held as u8]]).filter(|_| held > 0)
+            bad("switch n below a held share", vec![byte(SWITCH, "n", held as u8)]).filter(|_| held > 0)
         }
-        5 => bad("last applied at a held share", vec![number(2, lowest?)]),
-        6 => good("last applied below the held shares", vec![number(2, lowest? - 1)]),
-        7 => bad("last applied above a held share", vec![number(2, lowest?.checked_add(1)?)]),
+        5 => bad("last applied at a held share", vec![last(SWITCH, lowest?)]),
+        6 => good("last applied below the held shares", vec![last(SWITCH, lowest? - 1)]),
+        7 => bad("last applied above a held share", vec![last(SWITCH, lowest?.checked_add(1)?)]),
         _ => {
-            let serial = d.random.pick(&[0, 1, TOP - 1, TOP]);
-            good("raised event", vec![Body::new().byte(3).long(serial).byte(d.random.byte()).0])
+            let raised = Raised { serial: d.random.pick(&[0, 1, TOP - 1, TOP]), cause: d.random.byte() };
+            good("raised event", vec![alter(SWITCH, "raised", 0, raised.values())])
         }
     }
 }
@@ -210,18 +196,18 @@ fn switch_table(d: &mut Domain, s: &Switch) -> Option<Altered> {
         }
         6 => used.and(good("entry with another port", vec![entry(some, Entry { port: 77, ..here })])),
         7 => good("entry out of range", vec![entry(d.random.pick(&[64, 65, 255]), other)]),
-        8 if count < 64 => bad("count one more", vec![vec![6, count as u8 + 1]]),
-        9 => bad("count one less", vec![vec![6, count.checked_sub(1)? as u8]]),
-        10 => bad("count above 64", vec![vec![6, d.random.pick(&[65, 66, 128, 255])]]),
-        11 if count < 64 => bad("count of 64 in a smaller table", vec![vec![6, 64]]),
+        8 if count < 64 => bad("count one more", vec![byte(SWITCH, "count", count as u8 + 1)]),
+        9 => bad("count one less", vec![byte(SWITCH, "count", count.checked_sub(1)? as u8)]),
+        10 => bad("count above 64", vec![byte(SWITCH, "count", d.random.pick(&[65, 66, 128, 255]))]),
+        11 if count < 64 => bad("count of 64 in a smaller table", vec![byte(SWITCH, "count", 64)]),
         12 if count < 64 => {
             // An entry past all others, and the count with it: a larger table, well made.
             let last = s.table.entries[..count].last().map_or((0, 0), |e| (e.prefix, e.length));
             let new = Entry { prefix: TOP, length: 32, port: d.random.pick(&[1, 65_535]) };
-            let bodies = vec![entry(count, new), vec![6, count as u8 + 1]];
+            let bodies = vec![entry(count, new), byte(SWITCH, "count", count as u8 + 1)];
             good("entry and count", bodies).filter(|_| last < (TOP, 32))
         }
-        _ => used.and(bad("table emptied in its count only", vec![vec![6, 0]])),
+        _ => used.and(bad("table emptied in its count only", vec![byte(SWITCH, "count", 0)])),
     }
 }
 
@@ -232,26 +218,29 @@ fn controller_numbers(d: &mut Domain, c: &Controller) -> Option<Altered> {
     let switch = d.random.below(16);
     let there: Vec<u32> = used.iter().filter(|u| u.switch as usize == switch).map(|u| u.number).collect();
     match d.random.below(14) {
-        0 => good("controller id below n", vec![vec![0, d.random.below(c.n as usize) as u8]]),
-        1 => bad("controller id at n or above", vec![vec![0, d.random.pick(&[c.n, 16, 255])]]),
-        2 => bad("controller n out of range", vec![vec![1, d.random.pick(&[0, 17, 18, 255])]]),
-        3 => bad("controller n at its id", vec![vec![1, c.id]]).filter(|_| c.id > 0),
-        4 => good("controller n above its id", vec![vec![1, d.random.between(c.id as usize + 1, 16) as u8]]),
-        5 => bad("last given below an undone change", vec![number(2, used.last()?.number - 1)]),
-        6 => good("last given at the last undone change", vec![number(2, used.last()?.number)]),
-        7 => good("last given high", vec![number(2, d.random.pick(&[TOP, TOP - 1, TOP - 32, TOP - 33]))])
+        0 => good("controller id below n", vec![byte(CONTROLLER, "id", d.random.below(c.n as usize) as u8)]),
+        1 => bad("controller id at n or above", vec![byte(CONTROLLER, "id", d.random.pick(&[c.n, 16, 255]))]),
+        2 => bad("controller n out of range", vec![byte(CONTROLLER, "n", d.random.pick(&[0, 17, 18, 255]))]),
+        3 => bad("controller n at its id", vec![byte(CONTROLLER, "n", c.id)]).filter(|_| c.id > 0),
+        4 => good(
+            "controller n above its id",
+            vec![byte(CONTROLLER, "n", d.random.between(c.id as usize + 1, 16) as u8)],
+        ),
+        5 => bad("last given below an undone change", vec![last(CONTROLLER, used.last()?.number - 1)]),
+        6 => good("last given at the last undone change", vec![last(CONTROLLER, used.last()?.number)]),
+        7 => good("last given high", vec![last(CONTROLLER, d.random.pick(&[TOP, TOP - 1, TOP - 32, TOP - 33]))])
             .filter(|_| c.last < TOP - 33),
         8 => {
             let at = d.random.pick(&[*there.first()?, *there.last()?, TOP]);
-            bad("acknowledged at an undone change", vec![of_switch(3, switch, at)])
+            bad("acknowledged at an undone change", vec![acknowledged(switch, at)])
         }
-        9 => good("acknowledged below the undone changes", vec![of_switch(3, switch, there.first()? - 1)]),
+        9 => good("acknowledged below the undone changes", vec![acknowledged(switch, there.first()? - 1)]),
         10 if there.is_empty() => {
-            good("acknowledged without undone changes", vec![of_switch(3, switch, d.random.pick(&[0, 1, c.last, TOP]))])
+            good("acknowledged without undone changes", vec![acknowledged(switch, d.random.pick(&[0, 1, c.last, TOP]))])
         }
-        11 => good("last decided serial", vec![of_switch(4, switch, d.random.pick(&[0, 1, TOP - 1, TOP]))]),
-        12 => good("acknowledged of no switch", vec![of_switch(3, d.random.pick(&[16, 255]), TOP)]),
-        13 => good("serial of no switch", vec![of_switch(4, d.random.pick(&[16, 255]), TOP)]),
+        11 => good("last decided serial", vec![serial(switch, d.random.pick(&[0, 1, TOP - 1, TOP]))]),
+        12 => good("acknowledged of no switch", vec![acknowledged(d.random.pick(&[16, 255]), TOP)]),
+        13 => good("serial of no switch", vec![serial(d.random.pick(&[16, 255]), TOP)]),
         _ => None,
     }
 }
@@ -298,10 +287,10 @@ fn controller_undone(d: &mut Domain, c: &Controller) -> Option<Altered> {
             bad("undone past the count", vec![undone(place, kept)])
         }
         13 => good("undone out of range", vec![undone(d.random.pick(&[64, 65, 255]), here)]),
-        14 if used < 64 => bad("undone count one more", vec![vec![6, used as u8 + 1]]),
-        15 => bad("undone count one less", vec![vec![6, used as u8 - 1]]),
-        16 => bad("undone count above 64", vec![vec![6, d.random.pick(&[65, 128, 255])]]),
-        17 => bad("undone count 0 only", vec![vec![6, 0]]),
+        14 if used < 64 => bad("undone count one more", vec![byte(CONTROLLER, "count", used as u8 + 1)]),
+        15 => bad("undone count one less", vec![byte(CONTROLLER, "count", used as u8 - 1)]),
+        16 => bad("undone count above 64", vec![byte(CONTROLLER, "count", d.random.pick(&[65, 128, 255]))]),
+        17 => bad("undone count 0 only", vec![byte(CONTROLLER, "count", 0)]),
         18 => {
             let switch = d.random.below(16) as u8;
             let fits = c.acknowledged[switch as usize] < here.number;
@@ -432,7 +421,7 @@ pub fn switch(d: &mut Domain) {
     let looked = d.call(b'L', end, &state.table.entries[0].prefix.to_be_bytes());
     judge(d, &altered, looked.is("refused 20"));
     // Forwarding goes on whatever the table is.
-    for body in altered.bodies.iter().filter(|body| body[0] == 5 || body[0] == 6) {
+    for body in altered.bodies.iter().filter(|body| is_of(SWITCH, &["entry", "count"], body)) {
         let prefix = body.get(2..6).map_or(0, |b| u32::from_be_bytes([b[0], b[1], b[2], b[3]]));
         let near = d.random.long() >> d.random.pick(&[0, 1, 8, 16, 24, 31]);
         for address in [prefix, prefix ^ 1, prefix ^ near, d.random.pick(&state.table.entries).prefix] {
@@ -442,7 +431,7 @@ pub fn switch(d: &mut Domain) {
     calls_at_switch(d, end, &state);
     if !d.random.once_in(4) {
         for body in &altered.bodies {
-            if let Some(back) = restoring_switch(&state, body) {
+            if let Some(back) = restoring(SWITCH, &state, body) {
                 d.call(b'X', end, &back);
             }
         }
@@ -454,7 +443,7 @@ pub fn switch(d: &mut Domain) {
 
 fn calls_at_switch(d: &mut Domain, end: u8, state: &Switch) {
     for _ in 0..d.random.between(1, 4) {
-        let frame = Body::new().byte(48).byte(d.random.byte() % 17).wide(3).0;
+        let frame = whole_frame(d.random.byte() % 17, 3);
         match d.random.below(7) {
             0 => d.call(b'R', end, &[9]),
             1 => d.call(b'I', end, &[8]),
@@ -506,13 +495,14 @@ pub fn controller(d: &mut Domain) {
     // Deciding for no switch asks 20 and is refused by 12 otherwise.
     let decided = d.call(b'd', end, &[16, 0, 0, 0, 1, 1]);
     judge(d, &altered, decided.is("20"));
-    if altered.bodies.iter().any(|body| body[0] >= 7) && d.random.once_in(2) {
+    if altered.bodies.iter().any(|body| Field::altered(BOOK, body).is_some()) && d.random.once_in(2) {
         d.call(b'p', end, &[]);
     }
     calls_at_controller(d, end);
     if !d.random.once_in(4) {
         for body in &altered.bodies {
-            if let Some(back) = restoring_controller(&state, body) {
+            let back = restoring(CONTROLLER, &state, body).or_else(|| restoring(BOOK, &state.playbook, body));
+            if let Some(back) = back {
                 d.call(b'x', end, &back);
             }
         }
@@ -571,10 +561,7 @@ fn calls_at_controller(d: &mut Domain, end: u8) {
                 let bytes = d.event(switch, end, serial, 1);
                 d.call(b'm', end, &bytes)
             }
-            _ => {
-                let frame = Body::new().byte(48).byte(switch).wide(0).0;
-                d.call(b'w', end, &frame)
-            }
+            _ => d.call(b'w', end, &whole_frame(switch, 0)),
         };
     }
 }

@@ -1,7 +1,10 @@
 //! Bytes put together field by field: bodies of calls, messages with their tags, rules as a share has them.
 
+use reference::drive::FRAME;
 use reference::flow::{Action, Rule};
-use reference::tag::tag;
+use reference::message::{Message, SHARE_LENGTH};
+use reference::tag::{tag, TAG_LENGTH};
+use std::ops::Range;
 
 /// Big-endian fields, one after another.
 #[derive(Clone, Default)]
@@ -39,25 +42,7 @@ impl Body {
 
     /// A rule as a share and a playbook's change carry it: port 0 removes.
     pub fn carried(self, rule: Rule) -> Body {
-        self.long(rule.prefix).byte(rule.length).short(port(rule))
-    }
-
-    /// A rule as an altered state gets it, where `Set(0)` has a form too.
-    pub fn held(self, rule: Rule) -> Body {
-        let sets = u8::from(rule.action != Action::Remove);
-        self.long(rule.prefix).byte(rule.length).byte(sets).short(port(rule))
-    }
-
-    pub fn tagged(self, key: &[u8]) -> Body {
-        let tag = tag(key, &self.0);
-        self.bytes(&tag)
-    }
-}
-
-pub fn port(rule: Rule) -> u16 {
-    match rule.action {
-        Action::Remove => 0,
-        Action::Set(port) => port,
+        self.long(rule.prefix).byte(rule.length).short(rule.action.port())
     }
 }
 
@@ -75,26 +60,34 @@ pub fn kept(prefix: u32, length: u8) -> u32 {
     }
 }
 
-pub const EVENT: usize = 24;
-pub const SHARE: usize = 30;
-pub const ACKNOWLEDGEMENT: usize = 23;
+/// Where a share's rule stands.
+pub const RULE: Range<usize> = 7..SHARE_LENGTH - TAG_LENGTH;
 
 pub fn event(key: &[u8], switch: u8, controller: u8, serial: u32, cause: u8) -> Vec<u8> {
-    Body::new().byte(1).byte(switch).byte(controller).long(serial).byte(cause).tagged(key).0
+    Message::Event { switch, controller, serial, cause }.sealed(key)
 }
 
 pub fn share(key: &[u8], controller: u8, switch: u8, number: u32, rule: Rule) -> Vec<u8> {
-    Body::new().byte(2).byte(controller).byte(switch).long(number).carried(rule).tagged(key).0
+    Message::Share { controller, switch, number, rule }.sealed(key)
 }
 
 pub fn acknowledgement(key: &[u8], switch: u8, controller: u8, number: u32) -> Vec<u8> {
-    Body::new().byte(3).byte(switch).byte(controller).long(number).tagged(key).0
+    Message::Acknowledgement { switch, controller, number }.sealed(key)
+}
+
+/// The body of a writing call: the frame's length, the receiver and the offset.
+pub fn frame(length: usize, receiver: u8, offset: u64) -> Vec<u8> {
+    Body::new().byte(length as u8).byte(receiver).wide(offset).0
+}
+
+/// The same with the longest frame.
+pub fn whole_frame(receiver: u8, offset: u64) -> Vec<u8> {
+    frame(FRAME, receiver, offset)
 }
 
 /// Gives a damaged message the tag that belongs to its bytes again.
 pub fn tag_again(message: &mut [u8], key: &[u8]) {
-    if message.len() >= 16 {
-        let untagged = message.len() - 16;
+    if let Some(untagged) = message.len().checked_sub(TAG_LENGTH) {
         let tag = tag(key, &message[..untagged]);
         message[untagged..].copy_from_slice(&tag);
     }

@@ -3,6 +3,7 @@
 use crate::body::{kept, rule, Body};
 use crate::random::Random;
 use reference::flow::Rule;
+use reference::playbook::{CHANGE_KIND, END_KIND, PLAN_KIND};
 
 /// A record of a playbook. `Other` is any bytes.
 #[derive(Clone)]
@@ -17,9 +18,9 @@ pub fn encoded(records: &[Record]) -> Vec<u8> {
     let mut bytes = Body::new();
     for record in records {
         bytes = match record {
-            Record::Plan { switch, cause } => bytes.byte(0x11).byte(*switch).byte(*cause),
-            Record::Change { flow, switch, rule } => bytes.byte(0x12).byte(*flow).byte(*switch).carried(*rule),
-            Record::End => bytes.byte(0x13),
+            Record::Plan { switch, cause } => bytes.byte(PLAN_KIND).byte(*switch).byte(*cause),
+            Record::Change { flow, switch, rule } => bytes.byte(CHANGE_KIND).byte(*flow).byte(*switch).carried(*rule),
+            Record::End => bytes.byte(END_KIND),
             Record::Other(other) => bytes.bytes(other),
         };
     }

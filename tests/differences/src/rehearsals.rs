@@ -1,7 +1,7 @@
 //! `rehearsals`: random inputs of `rehearse`, compared line by line. A world of ends is kept beside the script, so that
 //! sends get somewhere and raw shares have to do with what the switches hold.
 
-use crate::body::{hex, kept, rule, share, Body};
+use crate::body::{self, hex, kept, rule, Body};
 use crate::books::{at_a_limit, encoded, faulty, ill_formed, pair, Few, Record};
 use crate::program;
 use crate::random::Random;
@@ -9,10 +9,11 @@ use crate::script::first_difference;
 use crate::tally::Tally;
 use crate::Options;
 use reference::flow::Rule;
-use reference::rehearsal::rehearse;
+use reference::message::{KEY_LENGTH, SHARE_LENGTH};
+use reference::rehearsal::{rehearse, DECIDE, DELIVER, KEEP, KINDS, RAW, REPORT, SCRIPT, SEND};
 
-/// The pairs of record and answer that document 01 allows. 10, 20, 21, 23 and 25 cannot come about: raw shares have 30
-/// bytes, states, stores and frames are good, and 8,192 bytes do not use up the numbers.
+/// The pairs of record and answer that document 01 allows. 10, 20, 21, 23 and 25 cannot come about: raw shares have a
+/// share's length, states, stores and frames are good, and 8,192 bytes do not use up the numbers.
 pub const PAIRS: &str = "
 before the script: 12, 15, 20, 28, 30, 31, 34, 35, 36, 37
 decide: 0, 12, 22, 24
@@ -24,9 +25,6 @@ deliver: 0, 1, 2, 16, 17, 18, 19, 26, 29
 no record: 30, 31
 script: empty, of 8192 bytes, of 8193 bytes, much longer, other
 ";
-
-/// The longest script.
-const SCRIPT: usize = 8192;
 
 /// The triggers of a playbook's plans, and the rules of its changes with their switches.
 type Triggers = Vec<(u8, u8)>;
@@ -42,10 +40,37 @@ struct Rehearsal {
     script: Vec<u8>,
 }
 
-fn key(controller: u8, switch: u8) -> [u8; 32] {
-    let mut key = [0; 32];
+/// A share with the tag of its pair's key, which is the pair and thirty zeros.
+fn share(controller: u8, switch: u8, number: u32, rule: Rule) -> Vec<u8> {
+    let mut key = [0; KEY_LENGTH];
     (key[0], key[1]) = (controller, switch);
-    key
+    body::share(&key, controller, switch, number, rule)
+}
+
+// Records
+
+fn decide(controller: u8, switch: u8, serial: u32, cause: u8) -> Body {
+    Body::new().byte(DECIDE).byte(controller).byte(switch).long(serial).byte(cause)
+}
+
+fn send(controller: u8, switch: u8) -> Body {
+    Body::new().byte(SEND).byte(controller).byte(switch)
+}
+
+fn report(switch: u8, controller: u8) -> Body {
+    Body::new().byte(REPORT).byte(switch).byte(controller)
+}
+
+fn raw(switch: u8, share: &[u8]) -> Body {
+    Body::new().byte(RAW).byte(switch).bytes(share)
+}
+
+fn keep(controller: u8, switch: u8, place: u8) -> Body {
+    Body::new().byte(KEEP).byte(controller).byte(switch).byte(place)
+}
+
+fn deliver(place: u8) -> Body {
+    Body::new().byte(DELIVER).byte(place)
 }
 
 impl Rehearsal {
@@ -95,41 +120,40 @@ impl Rehearsal {
         for controller in 0..self.n {
             if all || self.random.once_in(2) {
                 let controller = if self.random.once_in(80) { self.controller() } else { controller };
-                let record = Body::new().byte(0x21).byte(controller).byte(switch).long(serial).byte(cause);
-                self.record(record);
+                self.record(decide(controller, switch, serial, cause));
             }
         }
     }
 
     fn send(&mut self) {
         let (controller, switch) = (self.controller(), self.switch());
-        self.record(Body::new().byte(0x22).byte(controller).byte(switch));
+        self.record(send(controller, switch));
     }
 
     /// Every controller sends to a switch, and the switch reports to every controller.
     fn round(&mut self) {
         let switch = self.few.switch(&mut self.random);
         for controller in 0..self.n {
-            self.record(Body::new().byte(0x22).byte(controller).byte(switch));
+            self.record(send(controller, switch));
         }
         for controller in 0..self.n {
-            self.record(Body::new().byte(0x23).byte(switch).byte(controller));
+            self.record(report(switch, controller));
         }
     }
 
     fn report(&mut self) {
         let (switch, controller) = (self.switch(), self.controller());
-        self.record(Body::new().byte(0x23).byte(switch).byte(controller));
+        self.record(report(switch, controller));
     }
 
     fn keep(&mut self) {
         let (controller, switch, place) = (self.controller(), self.switch(), self.place());
-        self.record(Body::new().byte(0x25).byte(controller).byte(switch).byte(place));
+        self.record(keep(controller, switch, place));
     }
 
     fn deliver(&mut self) {
         let place = self.place();
-        self.record(Body::new().byte(0x26).byte(place));
+        self.record(deliver(place));
     }
 
     /// A share as a controller would make it or nearly so, and what can be done to it.
@@ -146,29 +170,29 @@ impl Rehearsal {
             0 => self.random.pick(&[0, u32::MAX]),
             _ => self.random.below(12) as u32,
         };
-        let mut bytes = share(&key(controller, switch), controller, switch, number, rule);
+        let mut bytes = share(controller, switch, number, rule);
         match self.random.below(14) {
-            0 => bytes[self.random.below(30)] ^= 1 << self.random.below(8),
+            0 => bytes[self.random.below(SHARE_LENGTH)] ^= 1 << self.random.below(8),
             1 => bytes[0] = self.random.pick(&[0, 1, 3, 255]),
             2 => bytes[1] = self.random.pick(&[self.n, 15, 16, 255]),
             3 => bytes[2] = self.random.pick(&[(switch + 1) % 16, 16, 255]),
-            4 => bytes[29] ^= 1,
+            4 => bytes[SHARE_LENGTH - 1] ^= 1,
             _ => {}
         }
         let to = if self.random.once_in(40) { self.random.pick(&[16, 255]) } else { switch };
-        self.record(Body::new().byte(0x24).byte(to).bytes(&bytes));
+        self.record(raw(to, &bytes));
     }
 
     /// Stray shares that a controller's own then meets: a higher number in its slot, or another rule under its number.
     fn in_the_way(&mut self) {
         let (controller, switch) = (self.random.below(self.n as usize) as u8, self.few.switch(&mut self.random));
-        self.record(Body::new().byte(0x25).byte(controller).byte(switch).byte(9));
+        self.record(keep(controller, switch, 9));
         let number = self.random.pick(&[1, 1, 2, 2, 3, 900]);
         let rule = self.few.rule(&mut self.random);
-        let bytes = share(&key(controller, switch), controller, switch, number, rule);
-        self.record(Body::new().byte(0x24).byte(switch).bytes(&bytes));
-        self.record(Body::new().byte(0x22).byte(controller).byte(switch));
-        self.record(Body::new().byte(0x26).byte(9));
+        let bytes = share(controller, switch, number, rule);
+        self.record(raw(switch, &bytes));
+        self.record(send(controller, switch));
+        self.record(deliver(9));
     }
 
     /// A table that raw shares fill to 64 entries, then the playbook's own changes, which come with higher numbers.
@@ -177,29 +201,28 @@ impl Rehearsal {
         let controller = 0;
         for number in 1..=64 {
             let (prefix, length) = pair(64 + number as usize);
-            let bytes = share(&key(controller, switch), controller, switch, number, rule(prefix, length, 4));
-            self.record(Body::new().byte(0x24).byte(switch).bytes(&bytes));
+            let bytes = share(controller, switch, number, rule(prefix, length, 4));
+            self.record(raw(switch, &bytes));
         }
-        self.record(Body::new().byte(0x23).byte(switch).byte(controller));
+        self.record(report(switch, controller));
         for _ in 0..70 {
             self.serial += 1;
             let (trigger, cause) = self.random.pick(&self.triggers);
-            let record = Body::new().byte(0x21).byte(controller).byte(trigger).long(self.serial).byte(cause);
-            self.record(record);
-            self.record(Body::new().byte(0x25).byte(controller).byte(switch).byte(7));
+            self.record(decide(controller, trigger, self.serial, cause));
+            self.record(keep(controller, switch, 7));
         }
         for _ in 0..4 {
-            self.record(Body::new().byte(0x22).byte(controller).byte(switch));
-            self.record(Body::new().byte(0x26).byte(7));
-            self.record(Body::new().byte(0x23).byte(switch).byte(controller));
+            self.record(send(controller, switch));
+            self.record(deliver(7));
+            self.record(report(switch, controller));
             self.raw();
         }
         // The same prefix with another length is not its entry, and a removal needs no room.
         for (length, port) in [(15, 1), (15, 0), (16, 0), (15, 1)] {
             let number = self.random.between(100, 100_000) as u32;
             let rule = rule(kept(pair(70).0, length), length, port);
-            let bytes = share(&key(controller, switch), controller, switch, number, rule);
-            self.record(Body::new().byte(0x24).byte(switch).bytes(&bytes));
+            let bytes = share(controller, switch, number, rule);
+            self.record(raw(switch, &bytes));
         }
     }
 
@@ -236,10 +259,10 @@ fn filled(rehearsal: &mut Rehearsal, length: usize) {
         rehearsal.step();
     }
     while rehearsal.script.len() + 2 <= length {
-        rehearsal.record(Body::new().byte(0x26).byte(62));
+        rehearsal.record(deliver(62));
     }
     if rehearsal.script.len() < length {
-        rehearsal.record(Body::new().byte(0x26));
+        rehearsal.record(Body::new().byte(DELIVER));
     }
 }
 
@@ -288,17 +311,17 @@ fn input(random: Random, number: u64) -> (Vec<u8>, Tally) {
         0 | 1 => filled(&mut r, SCRIPT),
         2 => {
             filled(&mut r, SCRIPT);
-            r.script.push(0x26);
+            r.script.push(DELIVER);
         }
         6 => filled(&mut r, 70_000),
         3 => {
             let kind = r.random.pick(&[0, 0x20, 0x27, 0x13, 0xFF]);
-            r.record(Body::new().byte(kind).bytes(&[0x26, 1]));
+            r.record(Body::new().byte(kind).bytes(&[DELIVER, 1]));
         }
         4 => {
-            let cut = r.random.pick(&[(0x21, 6), (0x22, 1), (0x23, 1), (0x24, 30), (0x25, 2), (0x26, 0)]);
-            let rest = r.random.between(0, cut.1);
-            r.record(Body::new().byte(cut.0).bytes(&vec![1; rest]));
+            let (kind, _, length) = r.random.pick(&KINDS);
+            let rest = r.random.between(0, length - 2);
+            r.record(Body::new().byte(kind).bytes(&vec![1; rest]));
         }
         5 if !r.script.is_empty() => {
             let at = r.random.below(r.script.len());
@@ -328,15 +351,8 @@ fn records(input: &[u8]) -> Vec<(&'static str, &[u8])> {
     let mut left = if answer == 0 { &rest[used..] } else { &[] };
     let mut records = Vec::new();
     while let Some(&kind) = left.first() {
-        let (name, length) = match kind {
-            0x21 => ("decide", 8),
-            0x22 => ("send", 3),
-            0x23 => ("report", 3),
-            0x24 => ("raw", 32),
-            0x25 => ("keep", 4),
-            0x26 => ("deliver", 2),
-            _ => ("no record", usize::MAX),
-        };
+        let known = KINDS.iter().find(|known| known.0 == kind);
+        let (name, length) = known.map_or(("no record", usize::MAX), |&(_, name, length)| (name, length));
         if left.len() < length {
             records.push(("no record", left));
             break;

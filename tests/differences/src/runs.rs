@@ -1,14 +1,17 @@
 //! `runs`: random runs as document 01 means them, checked after every call against the ideal controller, and brought to
 //! their end by full rounds. Every call is a call of `drive` too, so its lines can be compared.
 
-use crate::body::{self, Body, ACKNOWLEDGEMENT, EVENT, SHARE};
+use crate::body::{self, whole_frame, Body, RULE};
 use crate::books::{self, encoded};
 use crate::domain::{Domain, Sent};
 use crate::random::Random;
 use crate::script::{Reply, Script};
 use crate::tally::Tally;
 use crate::Options;
+use reference::drive::FRAME;
 use reference::ideal::{agreed, Decision, Ideal};
+use reference::message::Fields;
+use reference::message::{ACKNOWLEDGEMENT_LENGTH as ACKNOWLEDGEMENT, EVENT_LENGTH as EVENT, SHARE_LENGTH as SHARE};
 use reference::playbook::read;
 
 /// What a run meets. Question 23 is not among it: no run uses up the numbers. Nor are 19 for a change that is agreed,
@@ -142,10 +145,10 @@ impl Run {
     /// A share answered 1: it carries the agreed change of its number, and the ideal controller takes the number, in
     /// order of answer and with all others by rising number.
     fn applied(&mut self, switch: u8, share: &[u8]) {
-        let number = u32::from_be_bytes([share[3], share[4], share[5], share[6]]);
+        let number = Fields::new(&share[3..]).long();
         let agreed = self.ideal.agreed.iter().find(|change| change.number == number).copied();
         let Some(change) = agreed else { return self.blame(format!("number {number} was applied and not agreed")) };
-        if change.switch != switch || Body::new().carried(change.rule).0 != share[7..14] {
+        if change.switch != switch || Body::new().carried(change.rule).0 != share[RULE] {
             self.blame(format!("number {number} was applied with another change than the agreed one"));
         }
         if let Err(refusal) = self.ideal.feed(number) {
@@ -190,15 +193,15 @@ impl Run {
         true
     }
 
-    /// A write into a frame of 48 bytes, and the message out of it if there is one.
+    /// A write into the longest frame, and the message out of it if there is one.
     fn write(&mut self, letter: u8, end: u8, receiver: u8) -> Option<Sent> {
         let length = match letter {
             b'w' => SHARE,
             b'A' => ACKNOWLEDGEMENT,
             _ => EVENT,
         };
-        let offset = self.d.random.below(48 - length + 1);
-        let reply = self.call(letter, end, &Body::new().byte(48).byte(receiver).wide(offset as u64).0);
+        let offset = self.d.random.below(FRAME - length + 1);
+        let reply = self.call(letter, end, &whole_frame(receiver, offset as u64));
         let bytes = reply.frame().get(offset..offset + length)?.to_vec();
         reply.is("0").then_some(Sent { to_switch: letter == b'w', end: receiver, bytes })
     }
@@ -349,7 +352,7 @@ impl Run {
             }
             12..=14 => self.stray(),
             15 => {
-                let length = self.d.random.pick(&[0, 1, 23, 24, 30, 31, 60]);
+                let length = self.d.random.pick(&[0, 1, ACKNOWLEDGEMENT, EVENT, SHARE, SHARE + 1, 2 * SHARE]);
                 let mut bytes = self.d.random.bytes(length);
                 if let Some(kind) = bytes.first_mut() {
                     *kind = self.d.random.pick(&[1, 2, 3, *kind]);

@@ -6,7 +6,9 @@ use crate::program;
 use crate::random::Random;
 use crate::tally::Tally;
 use reference::controller::Controller;
-use reference::drive::World;
+use reference::drive::{Field, World, BOOK, CONTROLLER, FRAME, SWITCH, UNWRITTEN};
+use reference::flow::Action;
+use reference::message::{Fields, SHARE_LENGTH};
 use reference::switch::Switch;
 
 /// The longest script that `drive` reads.
@@ -122,16 +124,15 @@ fn edge(before: &State, letter: u8, body: &[u8]) -> Option<String> {
             (state.raised.serial == u32::MAX - 1).then(|| "the last serial raised".to_string())
         }
         (State::Switch(state), b'M') => {
-            let bytes = body.first_chunk::<14>().filter(|_| body.len() == 30)?;
-            let long = |at: usize| u32::from_be_bytes([bytes[at], bytes[at + 1], bytes[at + 2], bytes[at + 3]]);
-            if long(3) == u32::MAX {
+            let mut fields = Fields::new(body.get(3..).filter(|_| body.len() == SHARE_LENGTH)?);
+            let (number, rule) = (fields.long(), fields.rule());
+            if number == u32::MAX {
                 return Some("a share with the last number".to_string());
             }
             let count = state.table.count;
             let used = state.table.entries.get(..count)?;
-            let there = used.iter().any(|entry| entry.prefix == long(7) && entry.length == bytes[11]);
-            let removes = bytes[12..14] == [0, 0];
-            let kind = match (removes, there) {
+            let there = used.iter().any(|entry| entry.prefix == rule.prefix && entry.length == rule.length);
+            let kind = match (rule.action == Action::Remove, there) {
                 (true, true) => "a removal",
                 (true, false) => "a removal of none",
                 (false, true) => "one of them",
@@ -198,11 +199,13 @@ impl Script {
             self.tally.count("applied with n", &n.to_string());
         }
         self.look_at(letter, end, &reply, before);
-        let fields = if letter == b'X' { 7 } else { 10 };
-        let field = match body.first().unwrap_or(&0) {
-            field if *field < fields => format!("field {field}"),
-            _ => "no field".to_string(),
+        let number = if letter == b'X' {
+            Field::altered(SWITCH, body).map(|field| field.number)
+        } else {
+            let field = Field::altered(CONTROLLER, body).map(|field| field.number);
+            field.or(Field::altered(BOOK, body).map(|field| field.number))
         };
+        let field = number.map_or("no field".to_string(), |number| format!("field {number}"));
         let counted = match letter {
             b'K' | b'k' | b'p' if end < 16 => "made",
             b'X' | b'x' if end < 16 => &field,
@@ -237,7 +240,7 @@ impl Script {
         if stays && self.state(letter, end) != Some(before) {
             self.complain(format!("{} answered {} and altered the state", reply.call, reply.answer));
         }
-        if matches!(letter, b'E' | b'A' | b'w') && answered != "0" && reply.frame() != [0xEE; 48] {
+        if matches!(letter, b'E' | b'A' | b'w') && answered != "0" && reply.frame() != [UNWRITTEN; FRAME] {
             self.complain(format!("{} answered {} and altered the frame", reply.call, reply.answer));
         }
     }

@@ -13,7 +13,7 @@ pub const SCRIPT: usize = 1_048_576;
 /// How many bytes of a body become a key store at most.
 pub const STORE: usize = 544;
 /// How many bytes a frame has at most.
-pub const FRAME: usize = 48;
+pub const FRAME: usize = 64;
 /// What each byte of a frame is before a call.
 pub const UNWRITTEN: u8 = 0xEE;
 
@@ -106,7 +106,7 @@ impl World {
             b'T' => forwarded(switch.table.lookup(fields.long())),
             b'Q' => format!("quorum {}", quorum(fields.byte())),
             _ => {
-                alter_switch(switch, fields);
+                alter(SWITCH, switch, body);
                 "altered".to_string()
             }
         }
@@ -141,7 +141,8 @@ impl World {
             b'w' => written(fields, controller, |to, frame, at| controller.write_share(keys, to, frame, at)),
             b'p' => format!("holds {}", controller.playbook),
             _ => {
-                alter_controller(controller, fields);
+                alter(CONTROLLER, controller, body);
+                alter(BOOK, &mut controller.playbook, body);
                 "altered".to_string()
             }
         }
@@ -194,136 +195,269 @@ fn received(controller: &mut Controller, keys: &[u8], body: &[u8]) -> String {
     }
 }
 
-/// A rule of an alteration: prefix, length, action, port.
-fn altered_rule(fields: &mut Fields) -> Rule {
-    let (prefix, length, action, port) = (fields.long(), fields.byte(), fields.byte(), fields.short());
-    let action = if action == 0 { Action::Remove } else { Action::Set(port) };
-    Rule { prefix, length, action }
+// The fields of a state, as docs/DRIVE.md lays them out: altering, printing and giving back follow from these lists.
+
+/// The numbers of a part of a state, as many as it has.
+pub type Values = [u32; 7];
+
+/// What is altered as a whole.
+pub trait Part {
+    fn values(&self) -> Values;
+    fn of(values: &Values) -> Self;
 }
 
-/// Alters one field of a switch's state.
-fn alter_switch(switch: &mut Switch, mut fields: Fields) {
-    match fields.byte() {
-        0 => switch.id = fields.byte(),
-        1 => switch.n = fields.byte(),
-        2 => switch.last = fields.long(),
-        3 => switch.raised = Raised { serial: fields.long(), cause: fields.byte() },
-        4 => put(&mut switch.slots, fields.byte().into(), || Slot {
-            number: fields.long(),
-            rule: altered_rule(&mut fields),
-        }),
-        5 => put(&mut switch.table.entries, fields.byte().into(), || Entry {
-            prefix: fields.long(),
-            length: fields.byte(),
-            port: fields.short(),
-        }),
-        6 => switch.table.count = fields.byte().into(),
-        _ => {}
-    }
+/// A field: its name and number, what is printed before it, how many bytes tell its place (none where it stands once),
+/// the widths of its numbers in bytes, and how it is got and set. A number of 3 bytes is an action and its port.
+pub struct Field<S: 'static> {
+    pub name: &'static str,
+    pub number: u8,
+    shown: &'static str,
+    place: usize,
+    widths: &'static [usize],
+    get: fn(&S, usize) -> Option<Values>,
+    set: fn(&mut S, usize, &Values),
 }
 
-/// Alters one field of a controller's state.
-fn alter_controller(controller: &mut Controller, mut fields: Fields) {
-    let book = &mut controller.playbook;
-    match fields.byte() {
-        0 => controller.id = fields.byte(),
-        1 => controller.n = fields.byte(),
-        2 => controller.last = fields.long(),
-        3 => put(&mut controller.acknowledged, fields.byte().into(), || fields.long()),
-        4 => put(&mut controller.serials, fields.byte().into(), || fields.long()),
-        5 => put(&mut controller.undone.changes, fields.byte().into(), || Undone {
-            number: fields.long(),
-            first: fields.long(),
-            flow: fields.byte(),
-            switch: fields.byte(),
-            rule: altered_rule(&mut fields),
-        }),
-        6 => controller.undone.count = fields.byte().into(),
-        7 => (book.planned, book.listed) = (fields.byte().into(), fields.short().into()),
-        8 => put(&mut book.plans, fields.byte().into(), || Plan {
-            switch: fields.byte(),
-            cause: fields.byte(),
-            first: fields.short().into(),
-            count: fields.byte().into(),
-        }),
-        9 => put(&mut book.changes, fields.short().into(), || Change {
-            flow: fields.byte(),
-            switch: fields.byte(),
-            rule: altered_rule(&mut fields),
-        }),
-        _ => {}
-    }
-}
-
-/// Puts a value in a place, if there is such a place.
-fn put<T>(places: &mut [T], place: usize, value: impl FnOnce() -> T) {
-    if let Some(old) = places.get_mut(place) {
-        *old = value();
-    }
-}
-
-/// The places that are not all zero, with their numbers.
-fn nonzero<T: PartialEq + Default>(places: &[T]) -> impl Iterator<Item = (usize, &T)> {
-    places.iter().enumerate().filter(|(_, value)| **value != T::default())
-}
-
-impl Display for Action {
-    fn fmt(&self, line: &mut Formatter) -> fmt::Result {
-        match self {
-            Action::Remove => write!(line, "remove"),
-            Action::Set(port) => write!(line, "set {port}"),
+/// A field that stands once, or at places that so many bytes tell.
+macro_rules! field {
+    ($name:literal, $number:literal, $shown:literal, $widths:expr, $($part:ident).+) => {
+        Field {
+            name: $name,
+            number: $number,
+            shown: $shown,
+            place: 0,
+            widths: &$widths,
+            get: |state, _| Some(state.$($part).+.values()),
+            set: |state, _, values| state.$($part).+ = Part::of(values),
         }
+    };
+    ($name:literal, $number:literal, $shown:literal, $widths:expr, $($part:ident).+, $place:literal) => {
+        Field {
+            name: $name,
+            number: $number,
+            shown: $shown,
+            place: $place,
+            widths: &$widths,
+            get: |state, place| state.$($part).+.get(place).map(Part::values),
+            set: |state, place, values| {
+                if let Some(part) = state.$($part).+.get_mut(place) {
+                    *part = Part::of(values);
+                }
+            },
+        }
+    };
+}
+
+/// The fields of a switch, in the order of the line.
+pub const SWITCH: &[Field<Switch>] = &[
+    field!("id", 0, "state", [1], id),
+    field!("n", 1, "", [1], n),
+    field!("last", 2, "", [4], last),
+    field!("raised", 3, "", [4, 1], raised),
+    field!("count", 6, " count", [1], table.count),
+    field!("entry", 5, " entry", [4, 1, 2], table.entries, 1),
+    field!("slot", 4, " slot", [4, 4, 1, 3], slots, 1),
+];
+
+/// The fields of a controller, in the order of the line, where the playbook's counts stand after the last number.
+pub const CONTROLLER: &[Field<Controller>] = &[
+    field!("id", 0, "state", [1], id),
+    field!("n", 1, "", [1], n),
+    field!("last", 2, "", [4], last),
+    field!("acknowledged", 3, " acknowledged", [4], acknowledged, 1),
+    field!("serial", 4, " serial", [4], serials, 1),
+    field!("count", 6, " count", [1], undone.count),
+    field!("undone", 5, " undone", [4, 4, 1, 1, 4, 1, 3], undone.changes, 1),
+];
+/// How many of them stand before the playbook's counts.
+const HEAD: usize = 3;
+
+/// The fields of a controller's playbook.
+pub const BOOK: &[Field<Playbook>] = &[
+    Field {
+        name: "counts",
+        number: 7,
+        shown: "book",
+        place: 0,
+        widths: &[1, 2],
+        get: |book, _| Some(values([book.planned as u32, book.listed as u32])),
+        set: |book, _, values| (book.planned, book.listed) = (values[0] as usize, values[1] as usize),
+    },
+    field!("plan", 8, " plan", [1, 1, 2, 1], plans, 1),
+    field!("change", 9, " change", [1, 1, 4, 1, 3], changes, 2),
+];
+
+impl<S> Field<S> {
+    /// The field that a body alters, by its first byte.
+    pub fn altered<'a>(fields: &'a [Field<S>], body: &[u8]) -> Option<&'a Field<S>> {
+        let number = Fields::new(body).byte();
+        fields.iter().find(|field| field.number == number)
+    }
+
+    /// The field of this name.
+    pub fn named<'a>(fields: &'a [Field<S>], name: &str) -> Option<&'a Field<S>> {
+        fields.iter().find(|field| field.name == name)
+    }
+
+    /// The body that gives the field these values, at a place where it has places.
+    pub fn body(&self, place: usize, values: Values) -> Vec<u8> {
+        let mut body = vec![self.number];
+        put_number(&mut body, place as u32, self.place);
+        self.widths.iter().zip(values).for_each(|(&width, value)| put_number(&mut body, value, width));
+        body
+    }
+
+    /// The body that gives the field back what it has now, where another body alters it.
+    pub fn restoring(&self, state: &S, body: &[u8]) -> Option<Vec<u8>> {
+        let (place, _) = self.place_in(body);
+        Some(self.body(place, (self.get)(state, place)?))
+    }
+
+    /// The place that a body tells, and the bytes behind it.
+    fn place_in<'a>(&self, body: &'a [u8]) -> (usize, Fields<'a>) {
+        let mut fields = Fields::new(body);
+        fields.byte();
+        (fields.number(self.place) as usize, fields)
+    }
+
+    fn alter(&self, state: &mut S, body: &[u8]) {
+        let (place, mut fields) = self.place_in(body);
+        let mut values = Values::default();
+        self.widths.iter().zip(&mut values).for_each(|(&width, value)| *value = fields.number(width));
+        (self.set)(state, place, &values);
+    }
+
+    /// The field as it is printed: always where it stands once, and at each place that is not all zero.
+    fn show(&self, state: &S, line: &mut Formatter) -> fmt::Result {
+        for (place, values) in (0..).map_while(|place| Some((place, (self.get)(state, place)?))) {
+            if self.place == 0 {
+                write!(line, "{}", self.shown)?;
+                return self.show_values(&values, line);
+            }
+            if values.iter().any(|value| *value != 0) {
+                write!(line, "{} {place}", self.shown)?;
+                self.show_values(&values, line)?;
+            }
+        }
+        Ok(())
+    }
+
+    fn show_values(&self, values: &Values, line: &mut Formatter) -> fmt::Result {
+        for (&width, &value) in self.widths.iter().zip(values) {
+            match (width, action_of(value)) {
+                (3, Action::Remove) => write!(line, " remove")?,
+                (3, Action::Set(port)) => write!(line, " set {port}")?,
+                _ => write!(line, " {value}")?,
+            }
+        }
+        Ok(())
     }
 }
 
-impl Display for Rule {
-    fn fmt(&self, line: &mut Formatter) -> fmt::Result {
-        write!(line, "{} {} {}", self.prefix, self.length, self.action)
+/// Alters the field that a body names, if there is such a field.
+fn alter<S>(fields: &[Field<S>], state: &mut S, body: &[u8]) {
+    if let Some(field) = Field::altered(fields, body) {
+        field.alter(state, body);
     }
 }
+
+fn show<S>(fields: &[Field<S>], state: &S, line: &mut Formatter) -> fmt::Result {
+    fields.iter().try_for_each(|field| field.show(state, line))
+}
+
+/// Puts a number behind some bytes, in so many.
+fn put_number(bytes: &mut Vec<u8>, number: u32, width: usize) {
+    bytes.extend(&number.to_be_bytes()[4 - width..]);
+}
+
+/// These numbers, and zeros after them.
+pub fn values(numbers: impl IntoIterator<Item = u32>) -> Values {
+    let mut values = Values::default();
+    values.iter_mut().zip(numbers).for_each(|(value, number)| *value = number);
+    values
+}
+
+/// An action with its port as a number of 3 bytes, of which the first is 0 where it removes.
+fn action_of(value: u32) -> Action {
+    if value >> 16 == 0 {
+        Action::Remove
+    } else {
+        Action::Set(value as u16)
+    }
+}
+
+fn rule_values(rule: Rule) -> [u32; 3] {
+    let action = match rule.action {
+        Action::Remove => 0,
+        Action::Set(port) => 1 << 16 | u32::from(port),
+    };
+    [rule.prefix, rule.length.into(), action]
+}
+
+fn rule_of(values: &mut impl Iterator<Item = u32>) -> Rule {
+    Rule { prefix: next(values), length: next(values) as u8, action: action_of(next(values)) }
+}
+
+fn next(values: &mut impl Iterator<Item = u32>) -> u32 {
+    values.next().unwrap_or(0)
+}
+
+/// Numbers are parts.
+macro_rules! numbers {
+    ($($number:ident),+) => {
+        $(impl Part for $number {
+            fn values(&self) -> Values {
+                values([*self as u32])
+            }
+
+            fn of(values: &Values) -> $number {
+                values[0] as $number
+            }
+        })+
+    };
+}
+
+/// A part of numbers, with a rule behind them or none.
+macro_rules! part {
+    ($part:ident: $($number:ident),+ $(; $rule:ident)?) => {
+        impl Part for $part {
+            fn values(&self) -> Values {
+                values([$(self.$number as u32),+].into_iter()$(.chain(rule_values(self.$rule)))?)
+            }
+
+            fn of(values: &Values) -> $part {
+                let mut values = values.iter().copied();
+                $part { $($number: next(&mut values) as _,)+ $($rule: rule_of(&mut values))? }
+            }
+        }
+    };
+}
+
+numbers!(u8, u32, usize);
+part!(Raised: serial, cause);
+part!(Entry: prefix, length, port);
+part!(Slot: number; rule);
+part!(Undone: number, first, flow, switch; rule);
+part!(Plan: switch, cause, first, count);
+part!(Change: flow, switch; rule);
 
 impl Display for Switch {
     fn fmt(&self, line: &mut Formatter) -> fmt::Result {
-        let Raised { serial, cause } = self.raised;
-        write!(line, "state {} {} {} {serial} {cause}", self.id, self.n, self.last)?;
-        write!(line, " count {}", self.table.count)?;
-        for (place, Entry { prefix, length, port }) in nonzero(&self.table.entries) {
-            write!(line, " entry {place} {prefix} {length} {port}")?;
-        }
-        for (place, Slot { number, rule }) in nonzero(&self.slots) {
-            write!(line, " slot {place} {number} {rule}")?;
-        }
-        Ok(())
+        show(SWITCH, self, line)
     }
 }
 
 impl Display for Controller {
     fn fmt(&self, line: &mut Formatter) -> fmt::Result {
-        let Playbook { planned, listed, .. } = self.playbook;
-        write!(line, "state {} {} {} book {planned} {listed}", self.id, self.n, self.last)?;
-        for (switch, number) in nonzero(&self.acknowledged) {
-            write!(line, " acknowledged {switch} {number}")?;
-        }
-        for (switch, serial) in nonzero(&self.serials) {
-            write!(line, " serial {switch} {serial}")?;
-        }
-        write!(line, " count {}", self.undone.count)?;
-        for (place, Undone { number, first, flow, switch, rule }) in nonzero(&self.undone.changes) {
-            write!(line, " undone {place} {number} {first} {flow} {switch} {rule}")?;
-        }
-        Ok(())
+        show(&CONTROLLER[..HEAD], self, line)?;
+        write!(line, " ")?;
+        show(&BOOK[..1], &self.playbook, line)?;
+        show(&CONTROLLER[HEAD..], self, line)
     }
 }
 
 impl Display for Playbook {
     fn fmt(&self, line: &mut Formatter) -> fmt::Result {
-        write!(line, "book {} {}", self.planned, self.listed)?;
-        for (place, Plan { switch, cause, first, count }) in nonzero(&self.plans) {
-            write!(line, " plan {place} {switch} {cause} {first} {count}")?;
-        }
-        for (place, Change { flow, switch, rule }) in nonzero(&self.changes) {
-            write!(line, " change {place} {flow} {switch} {rule}")?;
-        }
-        Ok(())
+        show(BOOK, self, line)
     }
 }

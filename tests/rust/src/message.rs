@@ -7,11 +7,11 @@ use crate::{ask, Question, ENDS};
 /// Bytes in the key of a switch and a controller.
 pub const KEY_LENGTH: usize = 32;
 /// Bytes in an event.
-pub const EVENT_LENGTH: usize = 24;
+pub const EVENT_LENGTH: usize = 8 + TAG_LENGTH;
 /// Bytes in a share.
-pub const SHARE_LENGTH: usize = 30;
+pub const SHARE_LENGTH: usize = 14 + TAG_LENGTH;
 /// Bytes in an acknowledgement.
-pub const ACKNOWLEDGEMENT_LENGTH: usize = 23;
+pub const ACKNOWLEDGEMENT_LENGTH: usize = 7 + TAG_LENGTH;
 
 /// The kinds, by their first byte.
 #[derive(Clone, Copy, Debug, PartialEq, Eq)]
@@ -74,6 +74,13 @@ impl Message {
         for (place, byte) in part.iter_mut().zip(writer.written()) {
             *place = *byte;
         }
+    }
+
+    /// The message and its tag.
+    pub fn sealed(&self, key: &[u8]) -> Vec<u8> {
+        let mut bytes = vec![0; self.kind().length()];
+        self.write(key, &mut bytes);
+        bytes
     }
 
     /// The fields of a kind, in the order of their bytes.
@@ -164,6 +171,11 @@ impl<'a> Fields<'a> {
 
     pub fn wide(&mut self) -> u64 {
         u64::from_be_bytes(self.take())
+    }
+
+    /// A number of so many bytes, at most four.
+    pub fn number(&mut self, width: usize) -> u32 {
+        (0..width).fold(0, |number, _| number << 8 | u32::from(self.byte()))
     }
 
     /// Prefix, length and port, as a share and a playbook's change have them.

@@ -12,9 +12,9 @@ pub const CHANGES: usize = 512;
 pub const PLAN_CHANGES: usize = 32;
 
 /// The first bytes of the records, and the records' lengths.
-const PLAN_KIND: u8 = 0x11;
-const CHANGE_KIND: u8 = 0x12;
-const END_KIND: u8 = 0x13;
+pub const PLAN_KIND: u8 = 0x11;
+pub const CHANGE_KIND: u8 = 0x12;
+pub const END_KIND: u8 = 0x13;
 const PLAN_LENGTH: usize = 3;
 const CHANGE_LENGTH: usize = 10;
 const END_LENGTH: usize = 1;

@@ -38,6 +38,24 @@ fn begin(input: &[u8]) -> Result<(World, &[u8]), u8> {
     Ok((World::setup(n, &book), script))
 }
 
+/// The kinds of a script's records, by their first bytes.
+pub const DECIDE: u8 = 0x21;
+pub const SEND: u8 = 0x22;
+pub const REPORT: u8 = 0x23;
+pub const RAW: u8 = 0x24;
+pub const KEEP: u8 = 0x25;
+pub const DELIVER: u8 = 0x26;
+
+/// Each kind with its name and the length of its records.
+pub const KINDS: [(u8, &str, usize); 6] = [
+    (DECIDE, "decide", 8),
+    (SEND, "send", 3),
+    (REPORT, "report", 3),
+    (RAW, "raw", 2 + SHARE_LENGTH),
+    (KEEP, "keep", 4),
+    (DELIVER, "deliver", 2),
+];
+
 /// A record of the script.
 enum Record<'a> {
     Decide { controller: u8, switch: u8, serial: u32, cause: u8 },
@@ -57,30 +75,23 @@ impl<'a> Record<'a> {
         *script = rest;
         let mut fields = Fields::new(&record[1..]);
         Ok(match kind {
-            0x21 => Record::Decide {
+            DECIDE => Record::Decide {
                 controller: fields.byte(),
                 switch: fields.byte(),
                 serial: fields.long(),
                 cause: fields.byte(),
             },
-            0x22 => Record::Send { controller: fields.byte(), switch: fields.byte() },
-            0x23 => Record::Report { switch: fields.byte(), controller: fields.byte() },
-            0x24 => Record::Raw { switch: fields.byte(), share: &record[2..] },
-            0x25 => Record::Keep { controller: fields.byte(), switch: fields.byte(), place: fields.byte() },
+            SEND => Record::Send { controller: fields.byte(), switch: fields.byte() },
+            REPORT => Record::Report { switch: fields.byte(), controller: fields.byte() },
+            RAW => Record::Raw { switch: fields.byte(), share: &record[2..] },
+            KEEP => Record::Keep { controller: fields.byte(), switch: fields.byte(), place: fields.byte() },
             _ => Record::Deliver { place: fields.byte() },
         })
     }
 
     /// The length of a kind of record, for the kinds that are known.
     fn length(kind: u8) -> Option<usize> {
-        match kind {
-            0x21 => Some(8),
-            0x22 | 0x23 => Some(3),
-            0x24 => Some(2 + SHARE_LENGTH),
-            0x25 => Some(4),
-            0x26 => Some(2),
-            _ => None,
-        }
+        KINDS.iter().find(|(known, _, _)| *known == kind).map(|(_, _, length)| *length)
     }
 }
 

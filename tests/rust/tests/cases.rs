@@ -1,11 +1,12 @@
-//! Document 01's example, and every rehearsal of tests/cases: what it prints must be the lines beside it.
+//! Document 01's example, and every case: what it prints must be its lines in tests/cases. The inputs are made from the
+//! cases' texts (tests/inputs).
 
 use reference::rehearsal::rehearse;
 use std::fs;
 use std::path::{Path, PathBuf};
 
-fn cases() -> PathBuf {
-    Path::new(env!("CARGO_MANIFEST_DIR")).join("../cases")
+fn folder(name: &str) -> PathBuf {
+    Path::new(env!("CARGO_MANIFEST_DIR")).join("../..").join(name)
 }
 
 #[test]
@@ -23,14 +24,12 @@ fn example_of_document_01() {
 fn every_case() {
     let mut played = 0;
     let mut failed = Vec::new();
-    for file in fs::read_dir(cases()).expect("tests/cases lies beside this crate") {
+    for file in fs::read_dir(folder("target/cases")).expect("tests/rehearse.sh makes the inputs") {
         let input = file.unwrap().path();
-        if input.extension().is_none_or(|extension| extension != "in") {
-            continue;
-        }
-        let lines = fs::read(input.with_extension("out")).unwrap();
+        let name = input.file_stem().unwrap();
+        let lines = fs::read(folder("tests/cases").join(name).with_extension("out")).unwrap();
         if rehearse(&fs::read(&input).unwrap()).into_bytes() != lines {
-            failed.push(input.file_stem().unwrap().to_owned());
+            failed.push(name.to_owned());
         }
         played += 1;
     }

@@ -111,8 +111,8 @@ fn damaged_states_are_refused_everywhere() {
         assert_eq!(hear_with(&mut state, &[], &[]).0, 20);
         assert_eq!(decide(&mut state, 0, 99, 0), 20);
         assert_eq!(decide(&mut state, 99, 0, 0), 20);
-        assert_eq!(written(40, 0, 30, |frame, at| state.write_share(&keys, 4, frame, at)).0, 20);
-        assert_eq!(written(0, 5, 30, |frame, at| state.write_share(&[], 99, frame, at)).0, 20);
+        assert_eq!(written(FRAME, 0, SHARE, |frame, at| state.write_share(&keys, 4, frame, at)).0, 20);
+        assert_eq!(written(0, 5, SHARE, |frame, at| state.write_share(&[], 99, frame, at)).0, 20);
     }
 }
 
@@ -141,19 +141,19 @@ fn key_stores_of_another_length() {
         let keys = vec![0; length];
         assert_eq!(hear_with(&mut state, &keys, &acknowledgement(4, 2, 9)).0, 21);
         assert_eq!(hear_with(&mut state, &keys, &[]).0, 21);
-        assert_eq!(written(0, 0, 30, |frame, at| state.write_share(&keys, 99, frame, at)).0, 21);
+        assert_eq!(written(0, 0, SHARE, |frame, at| state.write_share(&keys, 99, frame, at)).0, 21);
     }
 }
 
 #[test]
 fn received_bytes_that_are_nothing_for_here() {
     let mut state = busy();
-    for length in (0..60).filter(|length| ![23, 24].contains(length)) {
+    for length in (0..2 * SHARE).filter(|length| ![ACKNOWLEDGEMENT, EVENT].contains(length)) {
         assert_eq!(hear(&mut state, &vec![1; length]), (10, false));
     }
     assert_eq!(hear(&mut state, &share(2, 4, 1, ROUTE)), (10, false));
     for kind in 0..=255 {
-        let mut bytes = vec![99; 24];
+        let mut bytes = vec![99; EVENT];
         bytes[0] = kind;
         assert_eq!(hear(&mut state, &bytes).0, if kind == 1 { 12 } else { 11 });
         bytes.pop();
@@ -306,19 +306,21 @@ fn writing_asks_the_receiver_then_the_frame_then_what_is_ready() {
     let state = busy();
     let keys = controller_keys(2);
     for switch in [16, 255] {
-        assert_eq!(written(0, 1, 30, |frame, at| state.write_share(&keys, switch, frame, at)).0, 12);
+        assert_eq!(written(0, 1, SHARE, |frame, at| state.write_share(&keys, switch, frame, at)).0, 12);
     }
-    for (length, at) in [(0, 0), (29, 0), (30, 1), (48, 19), (48, 48), (48, 49), (48, usize::MAX), (0, usize::MAX - 29)]
-    {
+    let (last, top) = (FRAME - SHARE, usize::MAX);
+    let short = [(0, 0), (SHARE - 1, 0), (SHARE, 1), (0, top - SHARE + 1)];
+    let beyond = [last + 1, FRAME, FRAME + 1, top].map(|at| (FRAME, at));
+    for (length, at) in short.into_iter().chain(beyond) {
         for switch in [4, 9] {
-            assert_eq!(written(length, at, 30, |frame, at| state.write_share(&keys, switch, frame, at)).0, 25);
+            assert_eq!(written(length, at, SHARE, |frame, at| state.write_share(&keys, switch, frame, at)).0, 25);
         }
     }
-    for (length, at) in [(30, 0), (48, 18), (48, 0)] {
-        let made = written(length, at, 30, |frame, at| state.write_share(&keys, 4, frame, at));
+    for (length, at) in [(SHARE, 0), (FRAME, last), (FRAME, 0)] {
+        let made = written(length, at, SHARE, |frame, at| state.write_share(&keys, 4, frame, at));
         assert_eq!(made, (0, share(2, 4, 1, ROUTE)));
         for switch in [5, 7, 9] {
-            assert_eq!(written(length, at, 30, |frame, at| state.write_share(&keys, switch, frame, at)).0, 26);
+            assert_eq!(written(length, at, SHARE, |frame, at| state.write_share(&keys, switch, frame, at)).0, 26);
         }
     }
 }

@@ -37,7 +37,7 @@ fn example_bytes() -> Vec<u8> {
 fn lines_of_the_page() {
     assert_eq!(run(&[]), "");
     let mut forged = share(0, 3, 1, set(0, 0, 1));
-    forged[29] ^= 1;
+    forged[SHARE - 1] ^= 1;
     let printed = lines(&[
         (b'S', 3, &[3, 4]),
         (b'K', 3, &switch_keys(3, 4)),
@@ -98,7 +98,7 @@ fn calls_at_a_switch() {
 }
 
 fn frame_of(message: &[u8], at: usize) -> String {
-    let mut frame = [0xEE; 48];
+    let mut frame = [0xEE; FRAME];
     frame[at..at + message.len()].copy_from_slice(message);
     frame.iter().map(|byte| format!("{byte:02x}")).collect()
 }
@@ -107,29 +107,32 @@ fn frame_of(message: &[u8], at: usize) -> String {
 fn frames() {
     let keys = switch_keys(2, 4);
     let offset = |frame: u8, to: u8, at: u64| [vec![frame, to], at.to_be_bytes().to_vec()].concat();
+    let (all, last) = (FRAME as u8, FRAME - ACKNOWLEDGEMENT);
     let printed = lines(&[
         (b'S', 2, &[2, 4]),
-        (b'A', 2, &offset(48, 3, 25)),
+        (b'A', 2, &offset(all, 3, last as u64)),
         (b'K', 2, &keys),
-        (b'A', 2, &offset(48, 3, 25)),
-        (b'A', 2, &offset(255, 3, 25)),
-        (b'A', 2, &offset(47, 3, 25)),
-        (b'A', 2, &offset(48, 3, u64::MAX)),
-        (b'A', 2, &offset(48, 4, 0)),
-        (b'E', 2, &offset(48, 3, 0)),
+        (b'A', 2, &offset(all, 3, last as u64)),
+        (b'A', 2, &offset(255, 3, last as u64)),
+        (b'A', 2, &offset(all - 1, 3, last as u64)),
+        (b'A', 2, &offset(all, 3, u64::MAX)),
+        (b'A', 2, &offset(all, 4, 0)),
+        (b'E', 2, &offset(all, 3, 0)),
         (b'R', 2, &[6]),
-        (b'E', 2, &[24, 3]),
+        (b'E', 2, &[EVENT as u8, 3]),
         (b'E', 2, &[]),
     ]);
-    let refused = |answer: u8| format!("switch 2 written {answer} state 2 4 0 0 0 count 0 frame {}", "ee".repeat(48));
-    let good = format!("switch 2 written 0 state 2 4 0 0 0 count 0 frame {}", frame_of(&acknowledgement(2, 3, 0), 25));
+    let refused =
+        |answer: u8| format!("switch 2 written {answer} state 2 4 0 0 0 count 0 frame {}", "ee".repeat(FRAME));
+    let good =
+        format!("switch 2 written 0 state 2 4 0 0 0 count 0 frame {}", frame_of(&acknowledgement(2, 3, 0), last));
     assert_eq!(printed[1], refused(21));
     assert_eq!(printed[3], good);
-    assert_eq!(printed[4], good, "a frame has at most 48 bytes");
+    assert_eq!(printed[4], good, "a frame has at most so many bytes");
     assert_eq!(printed[5..9], [refused(25), refused(25), refused(12), refused(26)]);
     let event = format!("switch 2 written 0 state 2 4 0 1 6 count 0 frame {}", frame_of(&event(2, 3, 1, 6), 0));
     assert_eq!(printed[10], event);
-    assert_eq!(printed[11], format!("switch 2 written 25 state 2 4 0 1 6 count 0 frame {}", "ee".repeat(48)));
+    assert_eq!(printed[11], format!("switch 2 written 25 state 2 4 0 1 6 count 0 frame {}", "ee".repeat(FRAME)));
 }
 
 #[test]
@@ -145,8 +148,8 @@ fn calls_at_a_controller() {
         (b'k', 1, &keys),
         (b'm', 1, &event(5, 1, 1, 1)),
         (b'd', 1, &[5, 0, 0, 0, 1, 1]),
-        (b'w', 1, &[48, 2, 0, 0, 0, 0, 0, 0, 0, 18]),
-        (b'w', 1, &[48, 5]),
+        (b'w', 1, &[FRAME as u8, 2, 0, 0, 0, 0, 0, 0, 0, (FRAME - SHARE) as u8]),
+        (b'w', 1, &[FRAME as u8, 5]),
         (b'm', 1, &acknowledgement(2, 1, 1)),
         (b'p', 1, &[]),
         (b'b', 1, &with_more),
@@ -166,9 +169,9 @@ fn calls_at_a_controller() {
         format!("controller 1 decided 0 state 1 4 2 book 1 2 serial 5 1 count 2 {two}"),
         format!(
             "controller 1 written 0 state 1 4 2 book 1 2 serial 5 1 count 2 {two} frame {}",
-            frame_of(&share_bytes, 18)
+            frame_of(&share_bytes, FRAME - SHARE)
         ),
-        format!("controller 1 written 26 state 1 4 2 book 1 2 serial 5 1 count 2 {two} frame {}", "ee".repeat(48)),
+        format!("controller 1 written 26 state 1 4 2 book 1 2 serial 5 1 count 2 {two} frame {}", "ee".repeat(FRAME)),
         "controller 1 received 0 state 1 4 2 book 1 2 acknowledged 2 1 serial 5 1 count 1 \
          undone 0 2 1 0 5 167772160 8 set 2"
             .to_string(),

@@ -15,6 +15,12 @@ fn quorums() {
     assert_eq!(quorum(255), 85);
 }
 
+/// Document 01's lengths, with tags of 16 bytes.
+#[test]
+fn lengths_of_messages() {
+    assert_eq!([EVENT, SHARE, ACKNOWLEDGEMENT], [24, 30, 23]);
+}
+
 #[test]
 fn rules_at_the_edge() {
     assert!(set(0x0A00_0000, 8, 1).well_formed());

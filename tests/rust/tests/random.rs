@@ -93,10 +93,11 @@ fn one_switch() {
             if random.chance(20) {
                 assert_eq!(state.raise(random.byte()), 0);
             }
-            let (length, at, to) = (random.below(50) as usize, random.below(30) as usize, random.below(6) as u8);
+            let (length, at, to) =
+                (random.below(FRAME as u64 + 2) as usize, random.below(30) as usize, random.below(6) as u8);
             let keys = switch_keys(id, n);
-            written(length, at, 24, |frame, at| state.write_event(&keys, to, frame, at));
-            written(length, at, 23, |frame, at| state.write_acknowledgement(&keys, to, frame, at));
+            written(length, at, EVENT, |frame, at| state.write_event(&keys, to, frame, at));
+            written(length, at, ACKNOWLEDGEMENT, |frame, at| state.write_acknowledgement(&keys, to, frame, at));
         }
     }
     for met in [0, 1, 2, 10, 12, 13, 14, 15, 16, 17, 18] {
@@ -122,9 +123,9 @@ fn one_controller() {
             }
             assert!(state.obeys_limits());
             for switch in 0..18 {
-                let (length, at) = (random.below(50) as usize, random.below(30) as usize);
+                let (length, at) = (random.below(FRAME as u64 + 2) as usize, random.below(30) as usize);
                 let keys = controller_keys(id);
-                written(length, at, 30, |frame, at| state.write_share(&keys, switch, frame, at));
+                written(length, at, SHARE, |frame, at| state.write_share(&keys, switch, frame, at));
             }
         }
     }
@@ -154,7 +155,7 @@ fn damaged_states() {
             damage_controller(&mut random, &mut state);
         }
         let good = state.obeys_limits();
-        let mut frame = [0; 30];
+        let mut frame = [0; SHARE];
         assert_eq!(state.write_share(&controller_keys(1), 2, &mut frame, 0) == 20, !good);
         assert_eq!(state.decide(5, 2 + random.below(2) as u32, 1) == 20, !good);
         let (answer, _) = state.receive(&controller_keys(1), &likely_bytes(&mut random));
@@ -208,7 +209,7 @@ fn rehearsals() {
             let ids = [random.below(5) as u8, random.below(5) as u8];
             match random.below(6) {
                 0 => input.extend([0x21, ids[0], ids[1], 0, 0, 0, random.below(5) as u8, random.below(3) as u8]),
-                1 => input.extend([0x24, ids[0]].into_iter().chain(random.bytes(30))),
+                1 => input.extend([0x24, ids[0]].into_iter().chain(random.bytes(SHARE))),
                 2 => input.extend([0x25, ids[0], ids[1], random.below(66) as u8]),
                 3 => input.extend([0x26, random.below(66) as u8]),
                 _ => input.extend([0x22 + random.below(2) as u8, ids[0], ids[1]]),

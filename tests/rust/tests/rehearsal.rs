@@ -81,7 +81,7 @@ fn ids_outside_the_domain() {
     assert_eq!(answers, [12, 12, 12, 12, 12, 12, 12, 12, 29]);
     assert!(played(&records).iter().all(|pair| pair.1 == 0));
     let mut raw = vec![0x24, 16];
-    raw.extend([0; 30]);
+    raw.extend([0; SHARE]);
     assert_eq!(played(&[&raw]), [(12, 0)]);
 }
 
@@ -136,13 +136,13 @@ fn raw_shares() {
     let raw = |switch: u8, bytes: Vec<u8>| [vec![0x24, switch], bytes].concat();
     let route = set(0x0A00_0000, 8, 1);
     let mut forged = share(1, 7, 3, route);
-    forged[29] ^= 1;
+    forged[SHARE - 1] ^= 1;
     let records = [
         raw(7, share(0, 7, 3, route)),
         raw(7, forged),
         raw(8, share(1, 7, 3, route)),
         raw(7, share(1, 7, 3, route)),
-        raw(7, vec![0; 30]),
+        raw(7, vec![0; SHARE]),
     ];
     let records: Vec<&[u8]> = records.iter().map(Vec::as_slice).collect();
     assert_eq!(played(&records), [(0, 0), (14, 0), (13, 0), (1, 3), (11, 3)]);
@@ -154,7 +154,7 @@ fn where_a_script_stops() {
         assert_eq!(played(&[DECIDE_0, &[kind], DECIDE_1]), [(0, 2), (31, 0)]);
     }
     let records: [&[u8]; 6] =
-        [DECIDE_0, &[0x22, 4, 99], &[0x23, 99, 99], &[0x24; 32], &[0x25, 99, 99, 99], &[0x26, 99]];
+        [DECIDE_0, &[0x22, 4, 99], &[0x23, 99, 99], &[0x24; 2 + SHARE], &[0x25, 99, 99, 99], &[0x26, 99]];
     for record in records {
         for cut in 1..record.len() {
             assert_eq!(played(&[DECIDE_1, &record[..cut]]), [(0, 2), (30, 0)], "a cut record is asked nothing");

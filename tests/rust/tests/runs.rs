@@ -139,7 +139,7 @@ impl Run {
     /// A stray's share with a good tag, the agreed change or another; or noise.
     fn stray(&mut self, random: &mut Random, at: u8) {
         if self.strays == 0 || random.chance(4) {
-            let bytes = random.bytes(30);
+            let bytes = random.bytes(SHARE);
             self.hand_share(at, &bytes);
             return;
         }

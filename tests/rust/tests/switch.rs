@@ -78,9 +78,12 @@ fn damaged_states_are_refused_everywhere() {
         assert_eq!(state.raise(1), 20);
         assert_eq!(state, before);
         assert_eq!(state.lookup(0), Looked::Refused(20));
-        assert_eq!(written(40, 0, 24, |frame, at| state.write_event(&keys, 0, frame, at)).0, 20);
-        assert_eq!(written(0, 9, 24, |frame, at| state.write_event(&[], 99, frame, at)).0, 20);
-        assert_eq!(written(40, 0, 23, |frame, at| state.write_acknowledgement(&keys, 0, frame, at)).0, 20);
+        assert_eq!(written(FRAME, 0, EVENT, |frame, at| state.write_event(&keys, 0, frame, at)).0, 20);
+        assert_eq!(written(0, 9, EVENT, |frame, at| state.write_event(&[], 99, frame, at)).0, 20);
+        assert_eq!(
+            written(FRAME, 0, ACKNOWLEDGEMENT, |frame, at| state.write_acknowledgement(&keys, 0, frame, at)).0,
+            20
+        );
         state.table.lookup(7);
         assert_eq!(state, before);
     }
@@ -94,9 +97,12 @@ fn key_stores_of_another_length() {
         let keys = vec![0; length];
         assert_eq!(receive_with(&mut state, &keys, &good), 21);
         assert_eq!(receive_with(&mut state, &keys, &[]), 21, "before the length is asked");
-        assert_eq!(written(40, 0, 24, |frame, at| state.write_event(&keys, 0, frame, at)).0, 21);
-        assert_eq!(written(40, 0, 23, |frame, at| state.write_acknowledgement(&keys, 0, frame, at)).0, 21);
-        assert_eq!(written(1, 9, 23, |frame, at| state.write_acknowledgement(&keys, 9, frame, at)).0, 21);
+        assert_eq!(written(FRAME, 0, EVENT, |frame, at| state.write_event(&keys, 0, frame, at)).0, 21);
+        assert_eq!(
+            written(FRAME, 0, ACKNOWLEDGEMENT, |frame, at| state.write_acknowledgement(&keys, 0, frame, at)).0,
+            21
+        );
+        assert_eq!(written(1, 9, ACKNOWLEDGEMENT, |frame, at| state.write_acknowledgement(&keys, 9, frame, at)).0, 21);
     }
     assert_eq!(receive(&mut state, &good), 1);
 }
@@ -104,13 +110,13 @@ fn key_stores_of_another_length() {
 #[test]
 fn received_bytes_that_are_no_share_for_here() {
     let mut state = held_switch();
-    for length in (0..60).filter(|length| *length != 30) {
+    for length in (0..2 * SHARE).filter(|length| *length != SHARE) {
         assert_eq!(receive(&mut state, &vec![2; length]), 10);
     }
-    assert_eq!(receive(&mut state, &event(2, 0, 1, 1)), 10, "24 bytes");
+    assert_eq!(receive(&mut state, &event(2, 0, 1, 1)), 10, "another length");
     assert_eq!(receive(&mut state, &acknowledgement(2, 0, 1)), 10, "23 bytes");
     for kind in (0..=255).filter(|kind| *kind != 2) {
-        let mut bytes = vec![99; 30];
+        let mut bytes = vec![99; SHARE];
         bytes[0] = kind;
         assert_eq!(receive(&mut state, &bytes), 11);
     }
@@ -125,7 +131,7 @@ fn received_bytes_that_are_no_share_for_here() {
 #[test]
 fn every_byte_of_a_share_is_tagged() {
     let good = share(0, 2, 9, ROUTE);
-    for place in 3..30 {
+    for place in 3..SHARE {
         let mut bytes = good.clone();
         bytes[place] ^= 0x40;
         assert_eq!(receive(&mut held_switch(), &bytes), 14, "byte {place}");
@@ -229,21 +235,29 @@ fn writing_asks_the_receiver_then_the_frame() {
     let state = held_switch();
     let keys = switch_keys(2, 4);
     for to in [4, 15, 16, 255] {
-        assert_eq!(written(0, 1, 24, |frame, at| state.write_event(&keys, to, frame, at)).0, 12);
-        assert_eq!(written(0, 1, 23, |frame, at| state.write_acknowledgement(&keys, to, frame, at)).0, 12);
+        assert_eq!(written(0, 1, EVENT, |frame, at| state.write_event(&keys, to, frame, at)).0, 12);
+        assert_eq!(written(0, 1, ACKNOWLEDGEMENT, |frame, at| state.write_acknowledgement(&keys, to, frame, at)).0, 12);
     }
-    for (length, at) in [(0, 0), (23, 0), (24, 1), (48, 25), (48, 48), (48, 49), (48, usize::MAX), (0, usize::MAX - 23)]
-    {
-        assert_eq!(written(length, at, 24, |frame, at| state.write_event(&keys, 0, frame, at)).0, 25, "before 26");
+    let (last, top) = (FRAME - EVENT, usize::MAX);
+    let short = [(0, 0), (EVENT - 1, 0), (EVENT, 1), (0, top - EVENT + 1)];
+    let beyond = [last + 1, FRAME, FRAME + 1, top].map(|at| (FRAME, at));
+    for (length, at) in short.into_iter().chain(beyond) {
+        assert_eq!(written(length, at, EVENT, |frame, at| state.write_event(&keys, 0, frame, at)).0, 25, "before 26");
     }
-    for (length, at) in [(0, 0), (22, 0), (23, 1), (48, 26), (48, usize::MAX), (48, usize::MAX - 22)] {
-        assert_eq!(written(length, at, 23, |frame, at| state.write_acknowledgement(&keys, 0, frame, at)).0, 25);
+    let last = FRAME - ACKNOWLEDGEMENT;
+    let short = [(0, 0), (ACKNOWLEDGEMENT - 1, 0), (ACKNOWLEDGEMENT, 1)];
+    let beyond = [last + 1, top, top - ACKNOWLEDGEMENT + 1].map(|at| (FRAME, at));
+    for (length, at) in short.into_iter().chain(beyond) {
+        assert_eq!(
+            written(length, at, ACKNOWLEDGEMENT, |frame, at| state.write_acknowledgement(&keys, 0, frame, at)).0,
+            25
+        );
     }
-    for (length, at) in [(23, 0), (48, 25), (48, 0)] {
-        let made = written(length, at, 23, |frame, at| state.write_acknowledgement(&keys, 3, frame, at));
+    for (length, at) in [(ACKNOWLEDGEMENT, 0), (FRAME, last), (FRAME, 0)] {
+        let made = written(length, at, ACKNOWLEDGEMENT, |frame, at| state.write_acknowledgement(&keys, 3, frame, at));
         assert_eq!(made, (0, acknowledgement(2, 3, 3)));
     }
-    assert_eq!(written(24, 0, 24, |frame, at| state.write_event(&keys, 0, frame, at)).0, 26);
+    assert_eq!(written(EVENT, 0, EVENT, |frame, at| state.write_event(&keys, 0, frame, at)).0, 26);
 }
 
 #[test]

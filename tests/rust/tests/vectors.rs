@@ -2,7 +2,7 @@
 
 mod support;
 
-use reference::tag::{hmac, matches, sha256, tag};
+use reference::tag::{hmac, matches, sha256, tag, TAG_LENGTH};
 use support::hex;
 
 #[test]
@@ -50,7 +50,7 @@ fn edges_of_the_padding() {
     }
 }
 
-/// RFC 4231, test cases 1 to 7; the fifth gives only the first 16 bytes, which are a tag.
+/// RFC 4231, test cases 1 to 7; the fifth gives only the first 16 bytes.
 #[test]
 fn rfc_4231() {
     let counting: Vec<u8> = (1..=25).collect();
@@ -73,7 +73,7 @@ fn rfc_4231() {
     for (key, message, expected) in cases {
         let expected = hex(expected);
         assert_eq!(hmac(key, message)[..expected.len()], expected);
-        assert_eq!(tag(key, message)[..], expected[..16]);
+        assert_eq!(tag(key, message), hmac(key, message)[..TAG_LENGTH]);
     }
 }
 
@@ -91,11 +91,11 @@ fn every_bit_of_a_tag_is_compared() {
     let (key, message) = ([9; 32], b"some message");
     let good = tag(&key, message);
     assert!(matches(&key, message, &good));
-    for bit in 0..128 {
+    for bit in 0..8 * TAG_LENGTH {
         let mut bad = good;
         bad[bit / 8] ^= 1 << (bit % 8);
         assert!(!matches(&key, message, &bad), "bit {bit}");
     }
-    assert!(!matches(&key, message, &good[..15]));
+    assert!(!matches(&key, message, &good[..TAG_LENGTH - 1]));
     assert!(!matches(&key, message, &[]));
 }

@@ -2,6 +2,9 @@
 //! laid out here once more, byte by byte, so that the library's writer is compared with something.
 #![allow(dead_code)]
 
+pub use reference::drive::FRAME;
+pub use reference::message::{ACKNOWLEDGEMENT_LENGTH as ACKNOWLEDGEMENT, EVENT_LENGTH as EVENT, SHARE_LENGTH as SHARE};
+
 use reference::controller::Controller;
 use reference::flow::{Action, Entry, Rule};
 use reference::playbook::{self, Playbook};
@@ -228,17 +231,17 @@ pub fn written(length: usize, at: usize, message: usize, write: impl Fn(&mut [u8
 /// A controller's current share for a switch, with its good key store.
 pub fn make_share(controller: &Controller, switch: u8) -> (u8, Vec<u8>) {
     let keys = controller_keys(controller.id);
-    written(40, 7, 30, |frame, at| controller.write_share(&keys, switch, frame, at))
+    written(FRAME, 7, SHARE, |frame, at| controller.write_share(&keys, switch, frame, at))
 }
 
 /// A switch's current acknowledgement for a controller.
 pub fn make_acknowledgement(switch: &Switch, to: u8) -> (u8, Vec<u8>) {
     let keys = switch_keys(switch.id, switch.n);
-    written(40, 3, 23, |frame, at| switch.write_acknowledgement(&keys, to, frame, at))
+    written(FRAME, 3, ACKNOWLEDGEMENT, |frame, at| switch.write_acknowledgement(&keys, to, frame, at))
 }
 
 /// A switch's current event for a controller.
 pub fn make_event(switch: &Switch, to: u8) -> (u8, Vec<u8>) {
     let keys = switch_keys(switch.id, switch.n);
-    written(40, 16, 24, |frame, at| switch.write_event(&keys, to, frame, at))
+    written(FRAME, 16, EVENT, |frame, at| switch.write_event(&keys, to, frame, at))
 }
