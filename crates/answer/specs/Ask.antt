@@ -9,6 +9,10 @@ abbrev pub pick : {A : Type 0} → Bool → A → A → A
 pick true a b = a
 pick false a b = b
 
+-- what a case of an answer says: document 01's number, and the values that come with it
+abbrev pub Numbered : Type 0
+Numbered = ℕ × List ℕ
+
 -- a question's number, and whether its answer is yes
 abbrev pub Question : Type 0
 Question = ℕ × Bool

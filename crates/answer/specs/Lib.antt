@@ -1,2 +1,3 @@
--- What all crates say their answers with.
+-- What all crates say their answers with, and the limits of a domain.
 pub mod Ask
+pub mod Limits

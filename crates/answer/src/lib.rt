@@ -1,6 +1,8 @@
 // The answers and question numbers of document 01, "The questions, in order", one constant each.
 // A question's number is returned when its answer is no.
 
+pub mod limits;
+
 // Set up, read, raised, taken, held, offered or written.
 pub const DONE: u8 = 0;
 // The change was applied with this share.

@@ -2,7 +2,9 @@
 use libc::STDERR_FILENO;
 use lists::front;
 use notation::Field;
+use notation::INPUT;
 use notation::Name;
+use notation::TEXT;
 
 pub(crate) enum Fault {
     None,
@@ -53,6 +55,12 @@ fn warn_range(low: u32, high: u32) {
     warn_number(high as u64);
 }
 
+fn warn_most(most: usize, of: &[u8]) {
+    warn(b"at most ");
+    warn_number(most as u64);
+    warn(of);
+}
+
 fn warn_key(controller: u8, switch: u8) {
     warn(b"key controller ");
     warn_number(controller as u64);
@@ -80,8 +88,8 @@ fn warn_expected(fault: Fault) {
         Fault::Name => warn(b"the name of the record that these bytes are"),
         Fault::Share => warn(b"share, since these bytes are one"),
         Fault::Key { controller, switch } => warn_key(controller, switch),
-        Fault::Input => warn(b"at most 16384 bytes in all"),
-        Fault::Text => warn(b"at most 1048576 bytes of text"),
+        Fault::Input => warn_most(INPUT, b" bytes in all"),
+        Fault::Text => warn_most(TEXT, b" bytes of text"),
     }
 }
 

@@ -36,8 +36,9 @@ fn plain(line: &[u8], p: Parse, field: Field) -> Parse {
 // The fields of a share.
 fn share(line: &[u8], p: Parse) -> Parse {
     let mut q = with_byte(p, layout::SHARE);
+    let count = notation::count_of(layout::SHARE);
     let mut i: u8 = 0;
-    while i < notation::FIELDS {
+    while i < count {
         let next = plain(line, q, notation::field_of(layout::SHARE, i));
         q = next;
         i += 1;
@@ -79,8 +80,9 @@ fn any(line: &[u8], p: Parse, field: Field) -> Parse {
 // The fields of a kind of records.
 pub(crate) fn fields(line: &[u8], p: Parse, kind: u8) -> Parse {
     let mut q = p;
+    let count = notation::count_of(kind);
     let mut i: u8 = 0;
-    while i < notation::FIELDS {
+    while i < count {
         let next = any(line, q, notation::field_of(kind, i));
         q = next;
         i += 1;

@@ -11,6 +11,7 @@ mod words;
 ghost use mathlib.Core.Path.{_≡_};
 ghost use Prim.Native.Nat.{_+_, _-_, _≤_};
 ghost use lib.ListN.{length};
+ghost use Rattle.notation.specs.Limits.{inputLimit, textLimit};
 use faults::Fault;
 use faults::is_none;
 use faults::tell;
@@ -21,23 +22,22 @@ use lists::byte_at;
 use lists::front;
 use notation::INPUT;
 use notation::LINE;
+use notation::TEXT;
 use parse::Before;
 use records::record_of;
 use words::find;
 
 // The longest text, and one byte further to tell a longer one.
-const TEXT: usize = 1048576;
-
-const SPACE: usize = 1048577;
+const SPACE: usize = TEXT + 1;
 
 fn for_text() -> [u8; SPACE]
-    ensures { λ r. ⌜ 1048577 ≡ length r ⌝ }
+    ensures { λ r. ⌜ textLimit + 1 ≡ length r ⌝ }
 {
     [0u8; SPACE]
 }
 
 fn for_input() -> [u8; INPUT]
-    ensures { λ r. ⌜ 16384 ≡ length r ⌝ }
+    ensures { λ r. ⌜ inputLimit ≡ length r ⌝ }
 {
     [0u8; INPUT]
 }

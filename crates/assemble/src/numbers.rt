@@ -60,7 +60,7 @@ pub(crate) fn small_field(line: &[u8], p: Parse, field: Field) -> Parse {
 }
 
 pub(crate) fn wide_field(line: &[u8], p: Parse, field: Field) -> Parse {
-    with_u32(number(line, named(line, p, field), 0, 4294967295))
+    with_u32(number(line, named(line, p, field), 0, answer::limits::LARGEST))
 }
 
 fn prefix(line: &[u8], p: Parse) -> Parse {

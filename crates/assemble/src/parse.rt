@@ -5,6 +5,7 @@ use crate::faults::is_none;
 use crate::words::hex_of;
 use crate::words::past;
 use crate::words::word;
+use lists::same;
 use notation::LINE;
 
 // What the records before allow next: the first of all, any, only further bytes, or none.
@@ -150,7 +151,7 @@ pub(crate) fn has_word(line: &[u8], p: Parse) -> bool {
 
 pub(crate) fn is_next(line: &[u8], p: Parse, expected: &[u8]) -> bool {
     let at = p.at;
-    tag::same(word(line, at), expected)
+    same(word(line, at), expected)
 }
 
 // No word is left.

@@ -28,7 +28,8 @@ fn given_by(controller: u8, switch: u8, raw: [u8; LINE]) -> [u8; tag::LENGTH] {
 // Whose key gives the share of a raw record its tag.
 fn giver_in(raw: [u8; LINE]) -> Giver {
     let all: &[u8] = &raw;
-    notation::giver_of(behind(all, MESSAGE_AT))
+    let share = front(behind(all, MESSAGE_AT), layout::SHARE_LENGTH);
+    notation::giver_of(share)
 }
 
 // The tag that the key of a pair gives.

@@ -3,14 +3,16 @@
 -- numbers its plan's changes and holds those not done; with any other the state stays. Assumes nothing.
 use mathlib.Core.Path.{_≡_, refl, ap, _∙_}
 use mathlib.Core.Bool.{Bool, true, false, not, _&&_}
-use mathlib.Core.List.{List, _++_, append-nil}
+use mathlib.Core.List.{List, [], _∷_, _++_, append-nil}
 use mathlib.Core.Logic.{_⊎_, inl, inr}
 use Prim.Native.Nat.{ℕ, _+_, _≤_, _<_}
 use native.Mathlib.Omega.{arith}
-use lib.Dec.{leb, eqb}
+use lib.Dec.{ltb, leb, eqb}
 use lib.ListN.{length, getD, set}
 use lib.Seq.{getD-set-same, getD-set-other}
 use borrow.Author.Tests.{le-ltb, lt-ltb, le-leb, lt-leb, eq-eqb, ne-eqb}
+use Rattle.answer.specs.Ask.{reply}
+use Rattle.answer.proofs.Asked.{reply-ap}
 use Rattle.answer.proofs.Bools.{by-eq, by-le}
 use Rattle.lists.specs.Counts.{passing}
 use Rattle.lists.proofs.Passing.{passing-none, passing-append, passing-same}
@@ -24,6 +26,7 @@ use Rattle.playbook.proofs.Listed.{no-changes}
 use Rattle.controller.specs.Changes.{emptyUndone, undoneOf, isUndone, stillUndone, numberedFrom}
 use Rattle.controller.specs.States.{unchanged, controllerOk}
 use Rattle.controller.specs.Acknowledgements.{acknowledgedOf, serialOf, acknowledge}
+use Rattle.controller.specs.Acknowledgements.{offerSaid, offers, takeEvent}
 use Rattle.controller.specs.Receiving.{receivedBy}
 use Rattle.controller.specs.Decisions.{givenBy, heldAfter, decided, decidedBy}
 use Rattle.controller.specs.declared.Controller.{Controller}
@@ -161,6 +164,11 @@ module _ (c : Controller) (keys bytes : List ℕ) where
       × (receivedBy c keys bytes ≡ unchanged c (receivedBy c keys bytes .answer))
   answered-other = refused-by (received c keys bytes)
 
+  -- what an event offers says its own numbers, and a refused one says nothing
+  pub offer-said : (s serial cause : ℕ) → offerSaid (takeEvent c s serial cause .offer)
+      ≡ reply ((22, ltb (serialOf c s) serial) ∷ []) (λ k. (0, [])) (0, s ∷ serial ∷ cause ∷ [])
+  offer-said s serial cause = reply-ap (λ (r : Reply). offerSaid (r .offer)) _ (unchanged c) (offers c s serial cause)
+
   -- the same bytes once more: an event is offered again, an acknowledgement taken is a repeat
   pub offered-again : Offered c keys bytes (receivedBy c keys bytes)
       → receivedBy (receivedBy c keys bytes .state) keys bytes ≡ receivedBy c keys bytes
@@ -216,7 +224,7 @@ module _ (c : Controller) (s serial cause : ℕ) where
   decided-other n = ap (λ (r : Reply). r .state) (decision-refused c s serial cause n)
 
   -- without a plan no number is given, and the undone changes stay
-  pub without-plan : hasTrigger (s, cause) (books.meaning (c .playbook) .plans) ≡ false
+  pub without-plan : hasTrigger (s, cause) (books.bookOf (c .playbook) .plans) ≡ false
       → decidedBy c s serial cause .answer ≡ 0
       → (decidedBy c s serial cause .state .progress .last ≡ c .progress .last)
       × (undoneOf (decidedBy c s serial cause .state) ≡ undoneOf c)

@@ -9,7 +9,7 @@ use native.Mathlib.Omega.{arith}
 use lib.ListN.{length, set}
 use Rattle.answer.proofs.Asked.{refused, answered, reply-from}
 use Rattle.answer.proofs.Bools.{and-join}
-use Rattle.lists.specs.Arrays.{everyTail, every}
+use Rattle.lists.specs.Arrays.{every}
 use Rattle.lists.specs.Rising.{risingFrom}
 use Rattle.lists.proofs.Passing.{rising-passing}
 use Rattle.lists.proofs.Stores.{set-grows}
@@ -45,7 +45,7 @@ module _ (id n : ℕ) (p : Playbook) where
       (λ k h e. absurd (omega arith)) (λ y e. (answered _ refl y 20, refl))
 
   fresh-kept : inRange id n ≡ true → storedOk p ≡ true → controllerOk (fresh id n p) ≡ true
-  unfolding controllerOk everyTail risingFrom
+  unfolding controllerOk every risingFrom
   fresh-kept e s = rw (e, s, held-unused [] (omega arith))
 
   pub setup-kept : setupOf id n p .answer ≡ 0 → storedOk p ≡ true → controllerOk (setupOf id n p .state) ≡ true

@@ -1,4 +1,5 @@
--- Laws of the controller end. Places, Planned, Scanning, Shares, Steps and Walked are for this crate's own functions.
+-- Laws of the controller end. Places, Planned, Scanning, Searching, Shares, Steps and Walked are for this
+-- crate's own functions.
 pub mod Within
 pub mod Waiting
 pub mod Staying
@@ -15,6 +16,7 @@ pub mod Remade
 mod Places
 mod Planned
 mod Scanning
+mod Searching
 mod Shares
 mod Steps
 mod Walked

@@ -9,8 +9,9 @@ use lib.Dec.{ltb}
 use lib.ListN.{length, getD, drop, length-take}
 use borrow.Author.Tests.{ltb-true, lt-ltb}
 use Rattle.answer.proofs.Bools.{and-join, and-parts}
-use Rattle.lists.specs.Arrays.{everyTail, every}
-use Rattle.lists.specs.Rising.{risingFrom, lastOf}
+use Rattle.lists.specs.Arrays.{every}
+use Rattle.lists.specs.Rising.{risingFrom}
+use Rattle.lists.specs.Places.{lastOf}
 use Rattle.lists.proofs.Padding.{pad-take, pad-unused}
 use Rattle.lists.proofs.Passing.{passing-few, passing-pass, every-passing, passing-twice}
 use Rattle.lists.proofs.Rising.{rising-lower, rising-append}
@@ -18,7 +19,7 @@ use Rattle.lists.proofs.Tails.{every-both}
 use Rattle.flow.specs.Rules.{wellFormed}
 use Rattle.playbook.specs.Storing.{changeOk}
 use Rattle.playbook.specs.declared.Change.{Change}
-use Rattle.controller.specs.Changes.{emptyUndone, undoneEmpty, meaning, heldOf, numbersOf, isUndone, stillUndone}
+use Rattle.controller.specs.Changes.{emptyUndone, undoneEmpty, undoneIn, heldOf, numbersOf, isUndone, stillUndone}
 use Rattle.controller.specs.Changes.{numbered, numberedFrom}
 use Rattle.controller.specs.States.{undoneOk}
 use Rattle.controller.specs.declared.Held.{Held}
@@ -27,16 +28,16 @@ use Rattle.controller.proofs.Within.{fits, fitting}
 
 -- a list of at most 64 in its places: read back, and zero past it
 module _ (us : List Undone) (few : length us ≤ 64) where
-  pub held-meaning : meaning (heldOf us) ≡ us
+  pub held-meaning : undoneIn (heldOf us) ≡ us
   held-meaning = pad-take 64 emptyUndone us few
 
   pub held-unused : every undoneEmpty (drop (length us) (heldOf us .changes)) ≡ true
   held-unused = pad-unused undoneEmpty emptyUndone 64 us refl few
 
 pub still-few : (acknowledged : List ℕ) (h : Held) → h .count ≤ 64
-    → length (stillUndone acknowledged (meaning h)) ≤ 64
+    → length (stillUndone acknowledged (undoneIn h)) ≤ 64
 still-few acknowledged h few =
-    omega (arith, passing-few (isUndone acknowledged) (meaning h), length-take (h .count) (h .changes))
+    omega (arith, passing-few (isUndone acknowledged) (undoneIn h), length-take (h .count) (h .changes))
 
 -- the changes of a plan that are numbered from one number on
 module _ (first : ℕ) where
@@ -72,7 +73,7 @@ module _ (first : ℕ) where
   -- they fit while nothing is acknowledged yet
   pub given-fits : (number last : ℕ) (cs : List Change) → 1 ≤ first → first ≤ number → number + length cs ≤ last + 1
       → every changeOk cs ≡ true → every (undoneOk [] last) (numberedFrom first number cs) ≡ true
-  unfolding numberedFrom everyTail
+  unfolding numberedFrom every
   given-fits number last [] one low high h = refl
   given-fits number last (c ∷ cs) one low high h =
       let t = and-parts (changeOk c) (every changeOk cs) h in
@@ -119,7 +120,7 @@ module _ (acknowledged : List ℕ) (last : ℕ) where
   -- the last of their numbers is at most the last given, so numbers that rise from that one may follow
   fits-last : (from : ℕ) (us : List Undone) → from ≤ last → every (undoneOk acknowledged last) us ≡ true
       → lastOf from (numbersOf us) ≤ last
-  unfolding everyTail lastOf
+  unfolding every lastOf
   fits-last from [] h each = h
   fits-last from (u ∷ us) h each =
       let t = and-parts (undoneOk acknowledged last u) (every (undoneOk acknowledged last) us) each in

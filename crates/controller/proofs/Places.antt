@@ -17,7 +17,8 @@ use Rattle.flow.specs.Rules.{emptyRule}
 use Rattle.flow.proofs.Actions.{rule-sound}
 use Rattle.playbook.specs.declared.Change.{Change}
 use Rattle.controller.specs.Changes.{emptyUndone, undoneEmpty, heldOf, undoneOf, isUndone, stillUndone}
-use Rattle.controller.specs.Changes.{numbered, numberedFrom, withChange}
+use Rattle.controller.specs.Changes.{numbered, numberedFrom}
+use Rattle.controller.specs.Moving.{withChange}
 use Rattle.controller.specs.declared.Controller.{Controller}
 use Rattle.controller.specs.declared.Held.{Held}
 use Rattle.controller.specs.declared.Undone.{Undone}

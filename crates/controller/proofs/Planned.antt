@@ -34,7 +34,7 @@ pub record Listed (p : Playbook) (t : books.Trigger) (q : Plan) : Type 0 where
   pub changes : changesFor p t ≡ take (q .count) (drop (q .first) (p .changes))
 
 pub plan-listed : (p : Playbook) (t : books.Trigger) → storedOk p ≡ true → {q : Plan}
-    → q ≡ planOf t (books.meaning p .plans) → Listed p t q
+    → q ≡ planOf t (books.bookOf p .plans) → Listed p t q
 plan-listed p t h e =
     let plan = stored-plan p t h in
     let s = stored-parts p h in

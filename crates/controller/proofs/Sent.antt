@@ -14,7 +14,8 @@ use Rattle.answer.proofs.Asked.{reply-ap, all-yes, some-no, answered, reply-kee
 use Rattle.answer.proofs.Bools.{tf}
 use Rattle.message.specs.Keys.{keyLength, keyAt}
 use Rattle.message.specs.Layout.{shareLength}
-use Rattle.message.specs.Writing.{encode, lengthOf, isMessage, placed, InRange}
+use Rattle.message.specs.Writing.{encode, lengthOf, isMessage, placed}
+use Rattle.message.specs.Ranges.{InRange}
 use Rattle.message.specs.declared.Message.the-variants.{Share}
 use Rattle.message.proofs.Written.{Sent, placed-message, sent}
 use Rattle.controller.specs.Changes.{undoneOf}

@@ -5,6 +5,7 @@ use mathlib.Core.Bool.{true, false}
 use mathlib.Core.List.{List, [], _∷_}
 use Prim.Native.Nat.{ℕ, _+_, _≤_}
 use lib.ListN.{length}
+use native.Mathlib.Omega.{arith}
 use Rattle.answer.specs.Ask.{reply}
 use Rattle.answer.proofs.Bools.{and-parts}
 use Rattle.answer.proofs.Asked.{none-asked, refused, asked}
@@ -39,7 +40,8 @@ module _ (id s : ℕ) where
       all-written key (shareOf id s (Change u)) frame at refl p room
       ∙ sym (asked _ _ 26 true _ refl ∙ none-asked _ _)
   writes Nothing key frame at p room =
-      nothing-written key (shareOf id s Nothing) frame at refl ∙ sym (refused _ _ 26 false _ refl)
+      let fit : at + 0 ≤ length frame = omega arith in
+      nothing-written key (shareOf id s Nothing) frame at p fit refl ∙ sym (refused _ _ 26 false _ refl)
 
 module _ (c : Controller) (s : ℕ) (ok : controllerOk c ≡ true) where
   pub share-said : portSaid (shareFor c s) ≡ true

@@ -11,7 +11,8 @@ use borrow.Author.Tests.{lt-ltb, eqb-true, not-false}
 use Rattle.answer.proofs.Bools.{by-bool, by-le, and-parts, same-test}
 use Rattle.lists.specs.Arrays.{every}
 use Rattle.lists.specs.Counts.{passing}
-use Rattle.lists.specs.Rising.{risingFrom, lastOf}
+use Rattle.lists.specs.Rising.{risingFrom}
+use Rattle.lists.specs.Places.{lastOf}
 use Rattle.lists.proofs.Padding.{pad-take}
 use Rattle.lists.proofs.Passing.{passing-few, every-passing, rising-passing}
 use Rattle.lists.proofs.Rising.{rising-append}

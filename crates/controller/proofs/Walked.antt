@@ -8,7 +8,7 @@ use native.Mathlib.Omega.{arith}
 use lib.Dec.{ltb}
 use lib.ListN.{length, take, drop, getD}
 use Rattle.answer.proofs.Bools.{by-bool}
-use Rattle.lists.specs.Arrays.{everyTail, every}
+use Rattle.lists.specs.Arrays.{every}
 use Rattle.lists.specs.Rising.{risingFrom}
 use Rattle.lists.proofs.Stores.{ahead, back}
 use Rattle.controller.specs.Changes.{numbersOf}
@@ -30,7 +30,7 @@ module _ (acknowledged : List ℕ) (last : ℕ) where
         → let u = getD us i z in
         walked before (drop i (take n us))
         ≡ ((undoneOk acknowledged last u && ltb before (u .number)) && walked (u .number) (drop (i + 1) (take n us)))
-    unfolding everyTail risingFrom
+    unfolding every risingFrom
     walk-turn z h k =
         let u = getD us i z in
         let later = drop (i + 1) (take n us) in
@@ -39,7 +39,7 @@ module _ (acknowledged : List ℕ) (last : ℕ) where
         (risingFrom (u .number) (numbersOf later))
 
     pub walk-end : n ≤ i → walked before (drop i (take n us)) ≡ true
-    unfolding everyTail risingFrom
+    unfolding every risingFrom
     walk-end h = ap (walked before) (back us n i h)
 
 -- a test and a further one: both fail where the first does, and where it passes the further one is left

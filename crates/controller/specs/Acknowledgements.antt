@@ -4,11 +4,12 @@ use Prim.Native.Nat.{ℕ}
 use mathlib.Core.List.{[], _∷_}
 use lib.ListN.{getD, set}
 use lib.Dec.{ltb}
-use Rattle.answer.specs.Ask.{pick, reply}
-use Rattle.controller.specs.Changes.{meaning, heldOf, stillUndone}
+use Rattle.answer.specs.Ask.{Numbered, pick, reply}
+use Rattle.controller.specs.Changes.{undoneIn, heldOf, stillUndone}
 use Rattle.controller.specs.States.{unchanged, progressed}
 use Rattle.controller.specs.declared.Controller.{Controller}
-use Rattle.controller.specs.declared.Offer.the-variants.{Event}
+use Rattle.controller.specs.declared.Offer.{Offer}
+use Rattle.controller.specs.declared.Offer.the-variants.{Nothing, Event}
 use Rattle.controller.specs.declared.Progress.{Progress}
 use Rattle.controller.specs.declared.Reply.{Reply}
 
@@ -25,7 +26,7 @@ acknowledging p s number = record {
   acknowledged = set (p .acknowledged) s number;
   serials = p .serials;
   last = p .last;
-  undone = heldOf (stillUndone (set (p .acknowledged) s number) (meaning (p .undone)));
+  undone = heldOf (stillUndone (set (p .acknowledged) s number) (undoneIn (p .undone)));
 }
 
 abbrev pub acknowledge : Controller → ℕ → ℕ → Controller
@@ -35,6 +36,11 @@ acknowledge c s number = progressed c (acknowledging (c .progress) s number)
 abbrev pub takeAcknowledgement : Controller → ℕ → ℕ → Reply
 takeAcknowledgement c s number =
     pick (ltb (acknowledgedOf c s) number) (unchanged (acknowledge c s number) 0) (unchanged c 2)
+
+-- document 01's number of what is offered, and its values: an event's switch, serial and cause, or nothing
+abbrev pub offerSaid : Offer → Numbered
+offerSaid Nothing = (0, [])
+offerSaid (Event s serial cause) = (0, s ∷ serial ∷ cause ∷ [])
 
 -- an event is offered, and the state stays
 abbrev pub offers : Controller → ℕ → ℕ → ℕ → Reply

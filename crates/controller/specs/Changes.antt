@@ -2,8 +2,9 @@
 use Prim.Native.Nat.{ℕ, _+_}
 use mathlib.Core.Bool.{Bool, _&&_}
 use mathlib.Core.List.{List, [], _∷_, map}
-use lib.ListN.{length, getD, set, take}
+use lib.ListN.{length, getD, take}
 use lib.Dec.{ltb, eqb}
+use Rattle.answer.specs.Limits.{mostUndone}
 use Rattle.lists.specs.Arrays.{pad}
 use Rattle.lists.specs.Counts.{passing}
 use Rattle.flow.specs.Rules.{emptyRule, ruleEmpty}
@@ -21,15 +22,15 @@ undoneEmpty u =
     eqb (u .number) 0 && eqb (u .first) 0 && eqb (u .flow) 0 && eqb (u .switch) 0 && ruleEmpty (u .rule)
 
 -- the undone changes in use, and the places with these, zero past them
-abbrev pub meaning : Held → List Undone
-meaning h = take (h .count) (h .changes)
+abbrev pub undoneIn : Held → List Undone
+undoneIn h = take (h .count) (h .changes)
 
 abbrev pub heldOf : List Undone → Held
-heldOf us = record { changes = pad 64 emptyUndone us; count = length us }
+heldOf us = record { changes = pad mostUndone emptyUndone us; count = length us }
 
 -- the undone changes of a controller
 abbrev pub undoneOf : Controller → List Undone
-undoneOf c = meaning (c .progress .undone)
+undoneOf c = undoneIn (c .progress .undone)
 
 abbrev pub numbersOf : List Undone → List ℕ
 numbersOf us = map (λ (u : Undone). u .number) us
@@ -50,7 +51,3 @@ numbered first number c =
 unfoldable pub numberedFrom : ℕ → ℕ → List Change → List Undone
 numberedFrom first number [] = []
 numberedFrom first number (c ∷ cs) = numbered first number c ∷ numberedFrom first (number + 1) cs
-
--- What the laws of held changes say: the undone changes with one more in the next place, if there is one left.
-abbrev pub withChange : Held → Undone → Held
-withChange h u = record { changes = set (h .changes) (h .count) u; count = h .count + 1 }

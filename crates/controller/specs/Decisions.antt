@@ -4,6 +4,7 @@ use mathlib.Core.List.{List, [], _∷_, _++_}
 use lib.ListN.{length, getD, set}
 use lib.Dec.{ltb, leb}
 use Rattle.answer.specs.Ask.{Question, reply}
+use Rattle.answer.specs.Limits.{switchCount, mostUndone, largest}
 use Rattle.playbook.specs.Books.{Trigger}
 use Rattle.playbook.specs.Plans.{changesFor}
 use Rattle.playbook.specs.declared.Playbook.{Playbook}
@@ -28,16 +29,16 @@ heldAfter c t = undoneOf c ++ stillUndone (c .progress .acknowledged) (givenBy c
 -- serial above the last decided there, and numbers enough for its plan's changes
 abbrev pub agreementQuestions : List ℕ → ℕ → List Undone → ℕ → ℕ → List Question
 agreementQuestions serials last changes s serial =
-    (12, ltb s 16)
+    (12, ltb s switchCount)
     ∷ (22, ltb (getD serials s 0) serial)
-    ∷ (23, leb (last + length changes) 4294967295)
+    ∷ (23, leb (last + length changes) largest)
     ∷ []
 
 abbrev pub decisionQuestions : Controller → ℕ → ℕ → ℕ → List Question
 decisionQuestions c s serial cause =
     (20, controllerOk c)
     ∷ agreementQuestions (c .progress .serials) (c .progress .last) (givenBy c (s, cause)) s serial
-    ++ (24, leb (length (heldAfter c (s, cause))) 64)
+    ++ (24, leb (length (heldAfter c (s, cause))) mostUndone)
     ∷ []
 
 -- the serial decided, the numbers given, the changes held

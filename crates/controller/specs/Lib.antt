@@ -1,5 +1,5 @@
 -- The controller end: undone changes, states and their limits, acknowledgements and events, what is ready, the calls,
--- decisions, lists of calls, and what a call moves.
+-- decisions, lists of calls, what a call moves, and for tellers why nothing is ready.
 pub mod Changes
 pub mod States
 pub mod Acknowledgements
@@ -9,3 +9,4 @@ pub mod Writing
 pub mod Decisions
 pub mod Calls
 pub mod Moving
+pub mod Awaiting

@@ -6,6 +6,7 @@ use mathlib.Core.List.{List, [], _∷_}
 use lib.ListN.{replicate, drop}
 use lib.Dec.{ltb, leb, eqb}
 use Rattle.answer.specs.Ask.{Question, reply}
+use Rattle.answer.specs.Limits.{switchCount, mostControllers, mostUndone}
 use Rattle.lists.specs.Arrays.{every}
 use Rattle.lists.specs.Rising.{risingFrom}
 use Rattle.flow.specs.Rules.{wellFormed}
@@ -30,11 +31,11 @@ progressed c p = record { id = c .id; n = c .n; playbook = c .playbook; progress
 
 -- n and the id in range
 abbrev pub inRange : ℕ → ℕ → Bool
-inRange id n = leb 1 n && leb n 16 && ltb id n
+inRange id n = leb 1 n && leb n mostControllers && ltb id n
 
 -- nothing acknowledged, decided, given or undone
 abbrev pub noProgress : Progress
-noProgress = record { acknowledged = replicate 16 0; serials = replicate 16 0; last = 0; undone = heldOf [] }
+noProgress = record { acknowledged = replicate switchCount 0; serials = replicate switchCount 0; last = 0; undone = heldOf [] }
 
 -- a controller to which nothing has happened; all zero for id 0, no controllers and the empty playbook
 abbrev pub fresh : ℕ → ℕ → Playbook → Controller
@@ -48,19 +49,19 @@ setupOf id n p =
 -- number from 1 to its own, its rule well formed
 abbrev pub undoneOk : List ℕ → ℕ → Undone → Bool
 undoneOk acknowledged last u =
-    ltb (u .switch) 16
+    ltb (u .switch) switchCount
     && isUndone acknowledged u
     && leb (u .number) last
     && leb 1 (u .first)
     && leb (u .first) (u .number)
     && wellFormed (u .rule)
 
--- question 20: n and the id in range, at most 64 undone changes, each as above, by rising number, unused places zero,
+-- question 20: n and the id in range, no more undone changes than there is room for, each as above, by rising number, unused places zero,
 -- and the playbook such as its reader stores
 unfoldable pub controllerOk : Controller → Bool
 controllerOk c =
     inRange (c .id) (c .n)
-    && leb (c .progress .undone .count) 64
+    && leb (c .progress .undone .count) mostUndone
     && every (undoneOk (c .progress .acknowledged) (c .progress .last)) (undoneOf c)
     && risingFrom 0 (numbersOf (undoneOf c))
     && every undoneEmpty (drop (c .progress .undone .count) (c .progress .undone .changes))
@@ -68,4 +69,4 @@ controllerOk c =
 
 -- questions 20 and 21 of a state and the length of its key store, before every call that uses tags
 abbrev pub stateQuestions : Controller → ℕ → List Question
-stateQuestions c stored = (20, controllerOk c) ∷ (21, eqb stored (keyLength * 16)) ∷ []
+stateQuestions c stored = (20, controllerOk c) ∷ (21, eqb stored (keyLength * switchCount)) ∷ []

@@ -5,6 +5,7 @@ use mathlib.Core.List.{List, [], _∷_, _++_}
 use lib.ListN.{length}
 use lib.Dec.{ltb}
 use Rattle.answer.specs.Ask.{Question, reply}
+use Rattle.answer.specs.Limits.{switchCount}
 use Rattle.message.specs.Keys.{keyAt}
 use Rattle.message.specs.Layout.{shareLength}
 use Rattle.message.specs.Writing.{encode, isMessage, roomAt, placed}
@@ -30,7 +31,7 @@ shareFor c s = shareOf (c .id) s (readyFor c s)
 abbrev pub writeQuestions : Controller → List ℕ → ℕ → List ℕ → ℕ → List Question
 writeQuestions c keys s frame at =
     stateQuestions c (length keys)
-    ++ (12, ltb s 16)
+    ++ (12, ltb s switchCount)
     ∷ (25, roomAt (length frame) at shareLength)
     ∷ (26, isMessage (shareFor c s))
     ∷ []

@@ -1,7 +1,8 @@
 // What an acknowledgement and an event move.
 ghost use mathlib.Core.Path.{_≡_};
 ghost use Prim.Native.Nat.{_≤_, _<_};
-ghost use Rattle.controller.specs.Changes.{meaning, heldOf, stillUndone};
+ghost use Rattle.answer.specs.Limits.{switchCount, mostUndone};
+ghost use Rattle.controller.specs.Changes.{undoneIn, heldOf, stillUndone};
 ghost use Rattle.controller.specs.Acknowledgements.{acknowledging};
 use crate::Held;
 use crate::Moved;
@@ -13,8 +14,8 @@ use crate::limits;
 
 // The undone changes that are not done by these acknowledged numbers, moved together.
 fn still_undone(h: Held, acknowledged: [u32; limits::PLACES]) -> Held
-    requires { ⌜ h .count ≤ 64 ⌝ }
-    ensures { λ r. ⌜ r ≡ heldOf (stillUndone acknowledged (meaning h)) ⌝ }
+    requires { ⌜ h .count ≤ mostUndone ⌝ }
+    ensures { λ r. ⌜ r ≡ heldOf (stillUndone acknowledged (undoneIn h)) ⌝ }
 {
     let n = h.count;
     let mut out = none_held();
@@ -33,7 +34,7 @@ fn still_undone(h: Held, acknowledged: [u32; limits::PLACES]) -> Held
 
 // Answer 0, and the moving parts with a number acknowledged by a switch.
 pub(crate) fn acknowledged_by(p: Progress, s: usize, number: u32) -> Moved
-    requires { ⌜ (s < 16) × (p .undone .count ≤ 64) ⌝ }
+    requires { ⌜ (s < switchCount) × (p .undone .count ≤ mostUndone) ⌝ }
     ensures { λ r. ⌜ r ≡ record { answer = 0; offer = Offer.Nothing; progress = acknowledging p s number } ⌝ }
 {
     let undone = p.undone;

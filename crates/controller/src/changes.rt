@@ -10,7 +10,7 @@ use crate::limits;
 use flow::Action;
 use flow::Rule;
 
-fn empty_undone() -> Undone
+pub(crate) fn empty_undone() -> Undone
     ensures { λ r. ⌜ r ≡ emptyUndone ⌝ }
 {
     Undone {

@@ -5,7 +5,9 @@ ghost use mathlib.Core.List.{_++_};
 ghost use Prim.Native.Nat.{_+_, _≤_, _<_};
 ghost use lib.ListN.{take, drop};
 ghost use Rattle.answer.specs.Ask.{reply};
-ghost use Rattle.controller.specs.Changes.{meaning, heldOf, stillUndone, numbered, numberedFrom};
+ghost use Rattle.answer.specs.Limits.{switchCount, mostUndone, largest};
+ghost use Rattle.playbook.specs.Limits.{maxChanges};
+ghost use Rattle.controller.specs.Changes.{undoneIn, heldOf, stillUndone, numbered, numberedFrom};
 ghost use Rattle.controller.specs.States.{unchanged, controllerOk};
 ghost use Rattle.controller.specs.Decisions.{decisionQuestions, decided, decidedBy};
 ghost use Rattle.controller.specs.Moving.{movedBy};
@@ -46,10 +48,10 @@ pub(crate) fn with_plan(
     count: usize,
     last: u32,
 ) -> Held
-    requires { ⌜ (h ≡ heldOf (meaning h)) × (h .count ≤ 64)
-        × (from + count ≤ 512) × (last + count ≤ 4294967295) ⌝ }
+    requires { ⌜ (h ≡ heldOf (undoneIn h)) × (h .count ≤ mostUndone)
+        × (from + count ≤ maxChanges) × (last + count ≤ largest) ⌝ }
     ensures { λ r. ⌜ r
-        ≡ heldOf (meaning h
+        ≡ heldOf (undoneIn h
         ++ stillUndone acknowledged (numberedFrom (last + 1) (last + 1) (take count (drop from listed)))) ⌝ }
 {
     let mut out = h;
@@ -73,7 +75,7 @@ pub(crate) fn with_plan(
 
 // Question 23, which counts the whole plan, and 24, which asks the state afterwards; then the decision is taken.
 fn take_decision(c: Controller, switch: u8, serial: u32, cause: u8) -> Moved
-    requires { ⌜ (controllerOk c ≡ true) × (switch < 16) ⌝ }
+    requires { ⌜ (controllerOk c ≡ true) × (switch < switchCount) ⌝ }
     ensures { λ r. ⌜ movedBy c r
         ≡ reply (drop 3 (decisionQuestions c switch serial cause)) (unchanged c)
         (unchanged (decided c switch serial cause) 0) ⌝ }

@@ -5,6 +5,7 @@ use flow::Rule;
 use playbook::Playbook;
 
 mod acknowledgements;
+mod awaiting;
 mod changes;
 mod decisions;
 mod limits;
@@ -13,6 +14,9 @@ mod receiving;
 mod states;
 mod writing;
 
+pub use awaiting::first_awaited;
+pub use awaiting::first_on;
+pub use awaiting::undone_in;
 pub use decisions::decide;
 pub use receiving::receive;
 pub use states::setup;

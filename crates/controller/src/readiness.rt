@@ -3,6 +3,7 @@ ghost use mathlib.Core.Path.{_≡_};
 ghost use mathlib.Core.Bool.{true, not};
 ghost use Prim.Native.Nat.{_≤_};
 ghost use lib.ListN.{take};
+ghost use Rattle.answer.specs.Limits.{mostUndone};
 ghost use Rattle.lists.specs.Arrays.{every};
 ghost use Rattle.lists.specs.Rising.{risingFrom};
 ghost use Rattle.controller.specs.Changes.{numbersOf};
@@ -12,7 +13,7 @@ use crate::Undone;
 use crate::limits;
 
 // Whether a change is of the decision and flow of another.
-fn is_tied(u: Undone, v: Undone) -> bool
+pub(crate) fn is_tied(u: Undone, v: Undone) -> bool
     ensures { λ r. ⌜ r ≡ ties u v ⌝ }
 {
     if v.first == u.first {
@@ -24,7 +25,7 @@ fn is_tied(u: Undone, v: Undone) -> bool
 
 // Whether a change is tied to none of the first n undone changes.
 fn untied(changes: [Undone; limits::UNDONE], n: usize, u: Undone) -> bool
-    requires { ⌜ n ≤ 64 ⌝ }
+    requires { ⌜ n ≤ mostUndone ⌝ }
     ensures { λ r. ⌜ r ≡ every (λ v. not (ties u v)) (take n changes) ⌝ }
 {
     let mut i: usize = 0;
@@ -41,7 +42,7 @@ fn untied(changes: [Undone; limits::UNDONE], n: usize, u: Undone) -> bool
 // The ready one of the first n undone changes on a switch. Numbers rise, so only the first change on the switch can be
 // ready, and it has to wait for those before it that it is tied to.
 pub(crate) fn ready_in(changes: [Undone; limits::UNDONE], n: usize, switch: u8) -> Ready
-    requires { ⌜ (n ≤ 64) × (risingFrom 0 (numbersOf (take n changes)) ≡ true) ⌝ }
+    requires { ⌜ (n ≤ mostUndone) × (risingFrom 0 (numbersOf (take n changes)) ≡ true) ⌝ }
     ensures { λ r. ⌜ r ≡ readyOf switch (take n changes) ⌝ }
 {
     let mut i: usize = 0;

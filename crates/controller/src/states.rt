@@ -6,10 +6,11 @@ ghost use Prim.Native.Nat.{_*_, _≤_};
 ghost use lib.Dec.{eqb};
 ghost use lib.ListN.{drop};
 ghost use Rattle.answer.specs.Ask.{firstNo};
+ghost use Rattle.answer.specs.Limits.{switchCount, mostUndone};
 ghost use Rattle.lists.specs.Arrays.{every};
 ghost use Rattle.lists.specs.Rising.{risingFrom};
 ghost use Rattle.message.specs.Keys.{keyLength};
-ghost use Rattle.controller.specs.Changes.{undoneEmpty, meaning, numbersOf};
+ghost use Rattle.controller.specs.Changes.{undoneEmpty, undoneIn, numbersOf};
 ghost use Rattle.controller.specs.States.{unchanged, inRange, fresh, setupOf};
 ghost use Rattle.controller.specs.States.{undoneOk, controllerOk};
 ghost use Rattle.controller.specs.Moving.{movedBy};
@@ -140,9 +141,9 @@ fn undone_ok(acknowledged: &[u32], last: u32, u: Undone) -> bool
 // Whether the undone changes are each within their limits and their numbers rise, from 1 on, and the other places are
 // empty.
 fn held_ok(h: Held, acknowledged: [u32; limits::PLACES], last: u32) -> bool
-    requires { ⌜ h .count ≤ 64 ⌝ }
+    requires { ⌜ h .count ≤ mostUndone ⌝ }
     ensures { λ r. ⌜ r
-        ≡ (every (undoneOk acknowledged last) (meaning h) && risingFrom 0 (numbersOf (meaning h))
+        ≡ (every (undoneOk acknowledged last) (undoneIn h) && risingFrom 0 (numbersOf (undoneIn h))
         && every undoneEmpty (drop (h .count) (h .changes))) ⌝ }
 {
     let n = h.count;
@@ -191,7 +192,7 @@ pub(crate) fn controller_ok(c: Controller) -> bool
 // Questions 20, whose answer is given, and 21, of the length of a key store: 0, or the number of the first whose answer
 // is no.
 pub(crate) fn state_question(ok: bool, stored: usize) -> u8
-    ensures { λ r. ⌜ r ≡ firstNo ((20, ok) ∷ (21, eqb stored (keyLength * 16)) ∷ []) ⌝ }
+    ensures { λ r. ⌜ r ≡ firstNo ((20, ok) ∷ (21, eqb stored (keyLength * switchCount)) ∷ []) ⌝ }
 {
     if !ok {
         return answer::LIMITS_BROKEN;

@@ -90,8 +90,9 @@ fn say_plain(field: Field, share: &[u8], s: &[u8]) {
 
 fn say_share_fields(share: &[u8]) {
     let mut rest = behind(share, 1);
+    let count = notation::count_of(layout::SHARE);
     let mut i: u8 = 0;
-    while i < notation::FIELDS {
+    while i < count {
         let field = notation::field_of(layout::SHARE, i);
         say_plain(field, share, rest);
         let next = behind(rest, notation::width_of(field));
@@ -120,8 +121,9 @@ fn say_field(field: Field, s: &[u8]) {
 // The fields of a record.
 pub(crate) fn say_fields(kind: u8, record: &[u8]) {
     let mut rest = behind(record, 1);
+    let count = notation::count_of(kind);
     let mut i: u8 = 0;
-    while i < notation::FIELDS {
+    while i < count {
         let field = notation::field_of(kind, i);
         say_field(field, rest);
         let next = behind(rest, notation::width_of(field));

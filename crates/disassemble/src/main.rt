@@ -3,23 +3,26 @@
 mod fields;
 
 ghost use mathlib.Core.Path.{_≡_};
+ghost use Prim.Native.Nat.{_+_};
 ghost use lib.ListN.{length};
+ghost use Rattle.notation.specs.Limits.{inputLimit};
 use fields::say_bytes;
 use fields::say_fields;
 use fields::say_name;
 use libc::STDERR_FILENO;
 use libc::STDIN_FILENO;
 use lists::byte_at;
+use notation::INPUT;
 use notation::LINE;
 use notation::kinds;
 use prose::say;
 use prose::say_number;
 
 // The longest input, and one byte further to tell a longer one.
-const SPACE: usize = notation::INPUT + 1;
+const SPACE: usize = INPUT + 1;
 
 fn for_input() -> [u8; SPACE]
-    ensures { λ r. ⌜ 16385 ≡ length r ⌝ }
+    ensures { λ r. ⌜ inputLimit + 1 ≡ length r ⌝ }
 {
     [0u8; SPACE]
 }
@@ -100,7 +103,9 @@ fn main() {
     let mut space = for_input();
     let n = io::read_full(STDIN_FILENO, &mut space);
     if n == SPACE {
-        io::write_all(STDERR_FILENO, b"expected at most 16384 bytes\n");
+        io::write_all(STDERR_FILENO, b"expected at most ");
+        io::print_decimal(STDERR_FILENO, INPUT as u64);
+        io::write_all(STDERR_FILENO, b" bytes\n");
     } else {
         disassemble(&space[..n]);
     }

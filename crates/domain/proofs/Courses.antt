@@ -17,7 +17,7 @@ use Rattle.lists.specs.Kinds.{among}
 use Rattle.lists.proofs.Tails.{every-at, every-take, every-drop}
 use Rattle.flow.specs.Rules.{ruleKey, sameKey, wellFormed, portOf}
 use Rattle.flow.specs.declared.Rule.{Rule}
-use Rattle.playbook.specs.Books.{Trigger, emptyChange, meaning, keysOn}
+use Rattle.playbook.specs.Books.{Trigger, emptyChange, bookOf, keysOn}
 use Rattle.playbook.specs.Plans.{planOf, changesFor}
 use Rattle.playbook.specs.Printing.{ruleInRange, InRange}
 use Rattle.playbook.specs.Storing.{changeOk, storedOk}
@@ -81,7 +81,7 @@ module _ (p : Playbook) where
     pub known : u .switch < 16
     pub formed : wellFormed (u .rule) ≡ true
     pub in-range : RuleInRange (u .rule)
-    pub key : among sameKey (ruleKey (u .rule)) (keysOn (u .switch) (meaning p .changes)) ≡ true
+    pub key : among sameKey (ruleKey (u .rule)) (keysOn (u .switch) (bookOf p .changes)) ≡ true
 
   -- changes whose numbers are those from 1 on
   abbrev pub Numbered : List Undone → Type 0
@@ -91,8 +91,8 @@ module _ (p : Playbook) where
     -- the changes of a plan are in range
     plan-range : (t : Trigger) → every ruleInRange (changesFor p t) ≡ true
     plan-range t =
-        let q = planOf t (meaning p .plans) in
-        every-take ruleInRange (q .count) _ (every-drop ruleInRange (q .first) (meaning p .changes) ranged)
+        let q = planOf t (bookOf p .plans) in
+        every-take ruleInRange (q .count) _ (every-drop ruleInRange (q .first) (bookOf p .changes) ranged)
 
     -- one of them, with its number
     planned-fine : (t : Trigger) (first number i : ℕ) → i < length (changesFor p t)

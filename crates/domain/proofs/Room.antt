@@ -10,12 +10,12 @@ use lib.Dec.{eqb}
 use lib.ListN.{length, getD}
 use borrow.Author.Tests.{eqb-true, eq-eqb}
 use Rattle.answer.proofs.Bools.{by-bool, by-or, tf, or-left, or-right, pick-keeps}
-use Rattle.lists.specs.Arrays.{everyTail}
+use Rattle.lists.specs.Arrays.{everyTail, every}
 use Rattle.lists.specs.Counts.{passing}
 use Rattle.lists.specs.Kinds.{among, kinds}
 use Rattle.lists.proofs.Pigeonhole.{kinds-within}
 use Rattle.flow.specs.Rules.{Key, ruleKey, sameKey}
-use Rattle.flow.specs.Tables.{meaning}
+use Rattle.flow.specs.Tables.{entriesOf}
 use Rattle.flow.specs.Changes.{applyRule, changed}
 use Rattle.flow.specs.declared.Rule.{Rule}
 use Rattle.flow.specs.declared.Table.{Table}
@@ -73,7 +73,7 @@ module _ (S : Setting) (v : Valid S) (ranged : InRange (playbook S)) where
   pub few-keys : (s : ℕ) → s < 16 → kinds sameKey (keysAt s (agreed S)) ≤ 64
   few-keys s l =
       let drawn = kinds-within sameKey key-sound key-mine (keysAt s (agreed S))
-      (books.keysOn s (books.meaning (playbook S) .changes))
+      (books.keysOn s (books.bookOf (playbook S) .changes))
       (keys-from s _ (agreed S) (λ i n on.
       let place : i + 1 - 1 ≡ i = omega arith in
       let key = change-fine S v ranged (i + 1) (omega arith, omega arith) .key in
@@ -82,20 +82,20 @@ module _ (S : Setting) (v : Valid S) (ranged : InRange (playbook S)) where
 
   -- a table in order that has no other keys
   pub record Drawn (s : ℕ) (t : Table) : Type 0 where
-    pub ordered : Ordered (meaning t)
-    pub within : Within (keysAt s (agreed S)) (meaning t)
+    pub ordered : Ordered (entriesOf t)
+    pub within : Within (keysAt s (agreed S)) (entriesOf t)
 
   module _ (k : ℕ) (g : Agreed D k) (t : Table) (d : Drawn (D .switch k) t) where
     -- it takes each agreed change of its switch, and is then such a table again
-    taken : Takes (keysAt (D .switch k) (agreed S)) (D .content k) (meaning t)
+    taken : Takes (keysAt (D .switch k) (agreed S)) (D .content k) (entriesOf t)
     taken =
         let fine = change-fine S v ranged k g in
-        takes (keysAt (D .switch k) (agreed S)) (D .content k) (meaning t) (few-keys (D .switch k) (fine .known))
+        takes (keysAt (D .switch k) (agreed S)) (D .content k) (entriesOf t) (few-keys (D .switch k) (fine .known))
         (fine .formed) (key-at (agreed S) (k - 1) (omega (arith, g .0, g .1))) (d .ordered) (d .within)
 
     drawn-next : Drawn (D .switch k) (changed (D .content k) t)
     drawn-next =
-        let es = applyRule (D .content k) (meaning t) in
+        let es = applyRule (D .content k) (entriesOf t) in
         let few : length es ≤ 64 =
         omega (
           arith,
@@ -106,7 +106,7 @@ module _ (S : Setting) (v : Valid S) (ranged : InRange (playbook S)) where
         record { ordered = rw is (taken .ordered); within = rw is (taken .within) }
 
   drawn-after : (ks : List ℕ) → ((k : ℕ) → among eqb k ks ≡ true → Agreed D k) → (s : ℕ) → Drawn s (tableAfter D ks s)
-  unfolding tableAfter among everyTail
+  unfolding tableAfter among everyTail every
   drawn-after [] all s = record { ordered = refl; within = λ k h. tf h refl }
   drawn-after (k ∷ ks) all s =
       let rest = drawn-after ks (λ j h. all j (or-right (eqb k j) _ h)) s in

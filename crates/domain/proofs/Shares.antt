@@ -19,7 +19,7 @@ use Rattle.flow.specs.declared.Rule.{Rule}
 use Rattle.flow.specs.declared.Table.{Table}
 use Rattle.switch.specs.Slots.{emptySlot, slotEmpty, holds, agreeing, isQuorum, emptied}
 use Rattle.switch.specs.States.{unchanged, switchOk}
-use Rattle.switch.specs.Shares.{slotOf, shareQuestions, stored, applied, taken, takeShare}
+use Rattle.switch.specs.Shares.{slotOf, shareQuestions, stored, applied, accepted, takeShare}
 use Rattle.switch.specs.declared.Slot.{Slot}
 use Rattle.switch.specs.declared.Switch.{Switch}
 use Rattle.switch.proofs.Agreement.{agreeing-count}
@@ -108,7 +108,7 @@ module _ (S : Setting) (t : Switch) (ok : switchOk t ≡ true) (n : t .n ≡ S .
         (ap (λ (slots : ℕ → protocol.Slot Rule). leb (D .quorum (t .table)) (protocol.agreeing D k rule slots))
         (λ j i. stored-slot i j))
 
-    taken-view : viewReply (taken t c share) ≡ protocol.taken D (viewSwitch t) c k rule
+    taken-view : viewReply (accepted t c share) ≡ protocol.taken D (viewSwitch t) c k rule
     taken-view =
         by-bool (holds share (slotOf t c)) (λ e. rw e)
         (λ e. rw (e, quorum-view) (by-bool
@@ -124,7 +124,7 @@ module _ (S : Setting) (t : Switch) (ok : switchOk t ≡ true) (n : t .n ≡ S .
       let slot = slotOf t c in
       let qs = protocol.shareQuestions D (viewSwitch t) c (viewSlot slot) k rule in
       rw (same-asked (eqb (slot .number) k) (sameRule (slot .rule) rule))
-      (ap viewReply (asked (unchanged t) (taken t c share) 15 _ (drop 1 qs) formed
-      ∙ sym (asked (unchanged t) (taken t c share) 47 true (drop 1 qs) refl))
-      ∙ reply-ap viewReply qs (unchanged t) (taken t c share)
+      (ap viewReply (asked (unchanged t) (accepted t c share) 15 _ (drop 1 qs) formed
+      ∙ sym (asked (unchanged t) (accepted t c share) 47 true (drop 1 qs) refl))
+      ∙ reply-ap viewReply qs (unchanged t) (accepted t c share)
       ∙ reply-same qs _ _ _ (λ y. taken-view (ltb-true _ _ (answered qs refl y 16))))

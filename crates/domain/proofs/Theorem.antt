@@ -7,7 +7,7 @@ use mathlib.Core.Bool.{true}
 use mathlib.Core.List.{List, [], _++_, append-nil}
 use Prim.Native.Nat.{ℕ, _+_, _≤_, _<_}
 use lib.ListN.{length, getD}
-use Rattle.flow.specs.Tables.{meaning}
+use Rattle.flow.specs.Tables.{entriesOf}
 use Rattle.flow.specs.Changes.{roomFor}
 use Rattle.switch.specs.States as switch
 use Rattle.switch.specs.declared.Reply as switch-reply
@@ -64,7 +64,7 @@ module _ (S : Setting) (v : Valid S) where
     -- question 19: each switch has room for each agreed change on it
     pub room : (k : ℕ) → 0 < k → k ≤ length (agreed S) →
         let u = changeOf (agreed S) k in
-        roomFor (u .rule) (meaning (after .switches (u .switch) .table)) ≡ true
+        roomFor (u .rule) (entriesOf (after .switches (u .switch) .table)) ≡ true
     room k positive few =
         let safe = run-reached S v calls p .invariant .safe in
         rw (safe .tables (changeOf (agreed S) k .switch))

@@ -9,7 +9,7 @@ use lib.ListN.{length}
 use Rattle.answer.specs.Ask.{pick}
 use Rattle.lists.specs.Bytes.{field}
 use Rattle.flow.specs.Rules.{sameRule, wellFormed, emptyRule}
-use Rattle.flow.specs.Tables.{meaning, tableOf}
+use Rattle.flow.specs.Tables.{entriesOf, tableOf}
 use Rattle.flow.specs.Changes.{changed, roomFor}
 use Rattle.flow.specs.declared.Rule.{Rule}
 use Rattle.flow.specs.declared.Table.{Table}
@@ -53,7 +53,7 @@ domainOf S = record {
   none = emptyRule;
   empty = tableOf [];
   apply = changed;
-  room = λ r t. roomFor r (meaning t);
+  room = λ r t. roomFor r (entriesOf t);
   member = λ t c. true;
   quorum = λ t. quorumOf (S .n);
 }

@@ -4,6 +4,7 @@ use Prim.Native.Nat.{ℕ}
 use mathlib.Core.List.{List, [], _∷_, _++_}
 use lib.ListN.{length, set, replicate}
 use Rattle.answer.specs.Ask.{Question, reply}
+use Rattle.answer.specs.Limits.{switchCount}
 use Rattle.playbook.specs.declared.Playbook.{Playbook}
 use Rattle.controller.specs.Decisions.{given, agreementQuestions}
 use Rattle.controller.specs.declared.Undone.{Undone}
@@ -18,7 +19,7 @@ pub record Course : Type 0 where
   pub changes : List Undone
 
 abbrev pub beginning : Playbook → Course
-beginning p = record { playbook = p; decided = []; serials = replicate 16 0; changes = [] }
+beginning p = record { playbook = p; decided = []; serials = replicate switchCount 0; changes = [] }
 
 -- the changes of a decision's plan, with the next numbers
 abbrev pub next : Course → Decision → List Undone

@@ -6,6 +6,7 @@ use mathlib.Core.List.{List, [], _∷_, _++_, map, List·Memᴰ}
 use Prim.Native.Nat.{ℕ, _<_}
 use lib.Dec.{ltb, eqb}
 use Rattle.answer.specs.Ask.{pick}
+use Rattle.answer.specs.Limits.{switchCount}
 use Rattle.lists.specs.Counts.{count, passing}
 use Rattle.lists.specs.Kinds.{isAmong}
 use Rattle.message.specs.Reading.{decode}
@@ -79,10 +80,10 @@ module _ (S : Setting) where
     pub in-order : fed agreed (answered r) .refused ≡ []
     pub by-number : fed agreed (falling (answered r)) .refused ≡ []
     -- all flow tables equal the ideal ones
-    pub tables : (s : ℕ) → s < 16 → r .switches s .table ≡ fed agreed (answered r) .tables s
-    pub tables-by-number : (s : ℕ) → s < 16 → r .switches s .table ≡ fed agreed (falling (answered r)) .tables s
+    pub tables : (s : ℕ) → s < switchCount → r .switches s .table ≡ fed agreed (answered r) .tables s
+    pub tables-by-number : (s : ℕ) → s < switchCount → r .switches s .table ≡ fed agreed (falling (answered r)) .tables s
     -- each last applied number is the highest made there, or 0
-    pub lasts : (s : ℕ) → s < 16 → r .switches s .last ≡ highest (numbersAt s (made (r .log)))
+    pub lasts : (s : ℕ) → s < switchCount → r .switches s .last ≡ highest (numbersAt s (made (r .log)))
 
   -- how many of some changes are unmade
   abbrev pub unmade : List Undone → Run → ℕ

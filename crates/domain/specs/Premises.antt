@@ -7,6 +7,7 @@ use Prim.Native.Nat.{ℕ, _-_, _<_}
 use lib.Dec.{eqb}
 use lib.ListN.{length, take, drop}
 use Rattle.answer.specs.Ask.{pick}
+use Rattle.answer.specs.Limits.{switchCount}
 use Rattle.flow.specs.declared.Rule.{Rule}
 use Rattle.tag.specs.Tags.{tagLength, tagOf}
 use Rattle.message.specs.Reading.{decode}
@@ -71,7 +72,7 @@ taken = decisions (λ answer. eqb answer 0)
 module _ (S : Setting) where
   -- the call is at one of the switches, or at a controller that keeps the rules
   abbrev pub InRun : Run → Call → Type 0
-  InRun r (atSwitch s x) = s < 16
+  InRun r (atSwitch s x) = s < switchCount
   InRun r (atController c x) = Keeps S c
 
   -- no tag of a pair whose controller keeps the rules is forged: bytes received that pass questions 10 to 14 for such a
@@ -83,7 +84,7 @@ module _ (S : Setting) where
   Unforged r (atSwitch s (writes kind c frame at)) = Unit {0}
   Unforged r (atSwitch s (manages m)) = Unit {0}
   Unforged r (atController c (controller.receives bytes)) =
-      (s : ℕ) → FromSwitch s c (decode ends.Controller bytes) → s < 16 → Tagged (S .key c s) bytes
+      (s : ℕ) → FromSwitch s c (decode ends.Controller bytes) → s < switchCount → Tagged (S .key c s) bytes
       → SwitchWrote (r .log) s c bytes
   Unforged r (atController c (writesShare s frame at)) = Unit {0}
   Unforged r (atController c (controller.manages m)) = Unit {0}

@@ -3,6 +3,7 @@ use mathlib.Core.Path.{_≡_}
 use mathlib.Core.Bool.{true}
 use mathlib.Core.List.{List, _++_, List·Memᴰ}
 use Prim.Native.Nat.{ℕ, _<_}
+use Rattle.answer.specs.Limits.{switchCount}
 use Rattle.message.specs.Writing.{encode, isMessage}
 use Rattle.message.specs.declared.Message.{Message}
 use Rattle.switch.specs.Writing.{acknowledgementFor}
@@ -33,10 +34,10 @@ module _ (S : Setting) where
     pub first : List Call
     pub second : List Call
     pub cut : calls ≡ first ++ second
-    pub acknowledged : (s : ℕ) → s < 16
+    pub acknowledged : (s : ℕ) → s < switchCount
         → Delivered (S .key c s) (λ v. acknowledgementNow v s c)
         (λ bytes. atController c (controller-calls.receives bytes)) r first
-    pub shared : (s : ℕ) → s < 16
+    pub shared : (s : ℕ) → s < switchCount
         → Delivered (S .key c s) (λ v. shareNow v c s)
         (λ bytes. atSwitch s (switch-calls.receives bytes)) (run (step S) r first) second
 

@@ -4,6 +4,7 @@ use mathlib.Core.Bool.{Bool, false}
 use mathlib.Core.List.{List}
 use Prim.Native.Nat.{ℕ, _-_, _/_, _≤_, _<_}
 use lib.ListN.{length}
+use Rattle.answer.specs.Limits.{switchCount, mostControllers}
 use Rattle.lists.specs.Bytes.{AreBytes}
 use Rattle.message.specs.Keys.{keyLength, joined}
 use Rattle.playbook.specs.Reading.{readWhole}
@@ -29,9 +30,9 @@ pub record Setting : Type 0 where
 -- bytes that the playbook's reader answers 0
 pub record Valid (S : Setting) : Type 0 where
   pub some : 1 ≤ S .n
-  pub few : S .n ≤ 16
+  pub few : S .n ≤ mostControllers
   pub straying : countBelow (S .n) (S .strays) ≤ (S .n - 1) / 3
-  pub keys : (c : ℕ) → c < S .n → (s : ℕ) → s < 16 → length (S .key c s) ≡ keyLength
+  pub keys : (c : ℕ) → c < S .n → (s : ℕ) → s < switchCount → length (S .key c s) ≡ keyLength
   pub bytes : AreBytes (S .book)
   pub read : readWhole (S .book) .answer ≡ 0
 
@@ -48,4 +49,4 @@ abbrev pub switchKeys : Setting → ℕ → List ℕ
 switchKeys S s = joined (λ c. S .key c s) (S .n)
 
 abbrev pub controllerKeys : Setting → ℕ → List ℕ
-controllerKeys S c = joined (S .key c) 16
+controllerKeys S c = joined (S .key c) switchCount

@@ -4,13 +4,12 @@ use mathlib.Core.List.{_++_}
 use native.Mathlib.Omega.{arith}
 use lib.Count.{ones}
 use Rattle.answer.specs.Ask.{reply}
-use Rattle.lists.specs.Arrays.{pad, everyTail}
+use Rattle.lists.specs.Arrays.{pad, everyTail, every}
 use Rattle.lists.specs.Bytes.{field, num}
 use Rattle.lists.specs.Kinds.{among, kinds}
 use Rattle.flow.specs.Tables.{tableOk}
 use Rattle.playbook.specs.Books.{keysOn, lastCount, countLast}
 use Rattle.playbook.specs.Reading.{readFrom}
-use Rattle.playbook.specs.Records.{recordAt}
 use Rattle.switch.specs.Slots.{agreeing}
 use Rattle.switch.specs.Shares.{takeShare}
 use Rattle.edges.specs.Asking.{Open, InRange}
@@ -28,12 +27,12 @@ unfolding reply takeShare agreeing pad ones among
 traps-hold o = (refl, (refl, (refl, (refl, (refl, (refl, tt))))))
 
 ports-hold : (o : Open) → Hold o ports
-unfolding readFrom recordAt reply tableOk pad everyTail num field among kinds keysOn lastCount countLast
+unfolding readFrom reply tableOk pad everyTail every num field among kinds keysOn lastCount countLast
 ports-hold o = (refl, (refl, tt))
 
 orders-hold : (o : Open) → InRange o → Hold o (orders o)
-unfolding readFrom recordAt reply tableOk
-orders-hold o h = (share-15 o h 0 (o .prefix) 33 (omega arith) (h .prefix) refl, (refl, (refl, tt)))
+unfolding readFrom reply tableOk
+orders-hold o h = (share-15 o h 0 (o .prefix) 33 (omega arith) (h .prefix) refl, (refl, (refl, (refl, (refl, tt)))))
 
 pub beside-hold : (o : Open) → InRange o → Hold o (beside o)
 beside-hold o h =

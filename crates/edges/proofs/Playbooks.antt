@@ -14,7 +14,6 @@ use Rattle.flow.specs.declared.Rule.{Rule}
 use Rattle.flow.proofs.Actions.{port-action}
 use Rattle.playbook.specs.Books.{keysOn, lastCount, countLast}
 use Rattle.playbook.specs.Reading.{readFrom}
-use Rattle.playbook.specs.Records.{recordAt}
 use Rattle.edges.specs.Asking.{Open, InRange, playbook, good, refused, changeRecord, endRecord, answerTo}
 use Rattle.edges.specs.Table.{rule, planned}
 
@@ -23,7 +22,7 @@ module _ (o : Open) (h : InRange o) (prefix length : ℕ) (fits : prefix < 256 ^
   r = rule o prefix length
 
   pub change-15 : wellFormed r ≡ false → answerTo o (planned o r) ≡ refused 15
-  unfolding readFrom recordAt reply be field among
+  unfolding readFrom reply be field among
   change-15 bad =
       rw (
         lt-ltb (o .switch) 16 (h .known .0),
@@ -34,7 +33,7 @@ module _ (o : Open) (h : InRange o) (prefix length : ℕ) (fits : prefix < 256 ^
       )
 
   pub change-good : wellFormed r ≡ true → answerTo o (planned o r) ≡ good
-  unfolding readFrom recordAt reply be field among kinds keysOn lastCount countLast
+  unfolding readFrom reply be field among kinds keysOn lastCount countLast
   change-good formed =
       rw (
         lt-ltb (o .switch) 16 (h .known .0),
@@ -46,5 +45,5 @@ module _ (o : Open) (h : InRange o) (prefix length : ℕ) (fits : prefix < 256 ^
       )
 
   pub change-34 : answerTo o (playbook (changeRecord o r ++ endRecord)) ≡ refused 34
-  unfolding readFrom recordAt reply be
+  unfolding readFrom reply be
   change-34 = rw (lt-ltb (o .switch) 16 (h .known .0))

@@ -19,7 +19,7 @@ use Rattle.message.specs.declared.Message.the-variants.{Share}
 use Rattle.message.proofs.Inverse.{decode-encode, encode-sealed}
 use Rattle.switch.specs.Slots.{slotFor, emptySlot, holds, isQuorum}
 use Rattle.switch.specs.States.{unchanged, inRange, fresh, setupOf, switchOk}
-use Rattle.switch.specs.Shares.{slotOf, shareQuestions, stored, taken, takeShare}
+use Rattle.switch.specs.Shares.{slotOf, shareQuestions, stored, accepted, takeShare}
 use Rattle.switch.specs.Receiving.{receivedBy}
 use Rattle.switch.specs.declared.Reply.{Reply}
 use Rattle.switch.specs.declared.Slot.{Slot}
@@ -30,7 +30,7 @@ use Rattle.edges.specs.Asking.{Open, InRange, share, good, refused, verd
 use Rattle.edges.specs.Table.{rule}
 
 -- a new share that passed all questions is held or applied
-new-good : (s : Switch) (c : ℕ) (x : Slot) → holds x (slotOf s c) ≡ false → verdict 1 (taken s c x .answer) ≡ good
+new-good : (s : Switch) (c : ℕ) (x : Slot) → holds x (slotOf s c) ≡ false → verdict 1 (accepted s c x .answer) ≡ good
 new-good s c x new =
     by-bool (isQuorum (s .n) x (stored s c x .slots)) (λ q. rw (new, q)) (λ q. rw (new, q))
 
@@ -109,6 +109,6 @@ module _ (o : Open) (h : InRange o) where
           room = room-empty r;
         } in
         let other : holds asks slot ≡ false = rw (none, ne-eqb 0 number (λ z. omega arith)) in
-        let asked : takeShare start (o .sender) asks ≡ taken start (o .sender) asks =
+        let asked : takeShare start (o .sender) asks ≡ accepted start (o .sender) asks =
         all-yes (shareQuestions start slot asks) (unchanged start) _ refl (passing start slot asks passes) in
         rw (comes, asked) (new-good start (o .sender) asks other)

@@ -8,7 +8,6 @@ use borrow.Author.Tests.{ne-eqb}
 use Rattle.answer.specs.Ask.{reply}
 use Rattle.flow.specs.Rules.{wellFormed}
 use Rattle.playbook.specs.Reading.{readFrom}
-use Rattle.playbook.specs.Records.{recordAt}
 use Rattle.edges.specs.Asking.{Open, InRange, example}
 use Rattle.edges.specs.Table.{Row, quorums, rule, rules, numbers, playbooks, table, Hold}
 use Rattle.edges.proofs.Shares.{share-15, share-16, share-good}
@@ -66,7 +65,7 @@ module _ (o : Open) (h : InRange o) where
   numbers-hold = (share-16 o h 0 0x0A00_0000 8 (omega arith) (omega arith) (h .action .0) refl, tt)
 
   playbooks-hold : Hold o (playbooks o)
-  unfolding readFrom recordAt reply
+  unfolding readFrom reply
   playbooks-hold = (refl, (refl, (refl, (change-34 o h 0x0A00_0000 8 (omega arith), tt))))
 
 pub edges : (o : Open) → InRange o → Hold o (table o)

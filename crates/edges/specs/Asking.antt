@@ -3,10 +3,11 @@
 use mathlib.Core.Path.{_≡_}
 use mathlib.Core.Bool.{true}
 use mathlib.Core.List.{List, [], _∷_, _++_}
-use Prim.Native.Nat.{ℕ, _*_, _^_, _<_}
+use Prim.Native.Nat.{ℕ, _*_, _^_, _≤_, _<_}
 use lib.Dec.{leb}
 use lib.ListN.{length, replicate}
 use Rattle.answer.specs.Ask.{pick}
+use Rattle.answer.specs.Limits.{switchCount, mostControllers}
 use Rattle.lists.specs.Bytes.{be}
 use Rattle.flow.specs.Rules.{portOk, portOf}
 use Rattle.flow.specs.Changes.{applyTo}
@@ -15,8 +16,8 @@ use Rattle.flow.specs.declared.Action.the-variants.{Set}
 use Rattle.flow.specs.declared.Rule.{Rule}
 use Rattle.flow.specs.declared.Table.{Table}
 use Rattle.message.specs.Keys.{keyLength, keyAt}
-use Rattle.message.specs.Writing.{encode}
-use Rattle.message.specs.declared.Message.the-variants.{Share}
+use Rattle.message.specs.Writing.{encode, writeTo}
+use Rattle.message.specs.declared.Message.the-variants.{Share, Refused}
 use Rattle.playbook.specs.Reading.{readWhole}
 use Rattle.switch.specs.Slots.{quorumOf}
 use Rattle.switch.specs.States.{setupOf}
@@ -41,8 +42,8 @@ pub record Open : Type 0 where
 
 -- in range, as document 01 and the widths of fields have it; any cause and flow
 pub record InRange (o : Open) : Type 0 where
-  pub controllers : (0 < o .n) × (o .n < 17)
-  pub known : (o .switch < 16) × (o .sender < o .n)
+  pub controllers : (0 < o .n) × (o .n ≤ mostControllers)
+  pub known : (o .switch < switchCount) × (o .sender < o .n)
   pub store : length (o .keys) ≡ keyLength * o .n
   pub number : (0 < o .number) × (o .number < 256 ^ 4)
   pub action : (portOk (o .action) ≡ true) × (portOf (o .action) < 256 ^ 2)
@@ -65,7 +66,8 @@ example = record {
 }
 
 -- asked are the quorum of so many controllers, a share with a number and a rule, the bytes of a playbook, a rule
--- applied to a table, a switch set up with an id and so many controllers, and shares of controllers, one after another
+-- applied to a table, a switch set up with an id and so many controllers, shares of controllers, one after another, and
+-- nothing written into a frame of so many bytes at an offset
 pub data Asked : Type 0 where
   quorum : ℕ → Asked
   share : ℕ → Rule → Asked
@@ -73,6 +75,7 @@ pub data Asked : Type 0 where
   applied : Table → Rule → Asked
   setup : ℕ → ℕ → Asked
   shares : List (ℕ × Slot) → Asked
+  nothing : ℕ → ℕ → Asked
 
 -- said are a figure, that it is good, and the number of the question that refuses it
 pub data Said : Type 0 where
@@ -115,3 +118,4 @@ module _ (o : Open) where
   answerTo (applied t r) = verdict 1 (applyTo t r .answer)
   answerTo (setup id n) = verdict 0 (setupOf id n .answer)
   answerTo (shares xs) = figure (lastAnswer (setupOf 5 4) xs)
+  answerTo (nothing bytes at) = verdict 0 (writeTo [] (Refused 26) (replicate bytes 0) at .0)

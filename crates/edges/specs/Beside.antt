@@ -1,15 +1,16 @@
 -- Rows beside the edges that document 01 marks: who can be set up, shares one after another (document 01, "Traps"),
 -- port 0, and questions in order.
 use mathlib.Core.List.{List, [], _∷_, _++_}
-use Prim.Native.Nat.{ℕ}
+use Prim.Native.Nat.{ℕ, _+_}
 use lib.ListN.{replicate}
+use Rattle.answer.specs.Limits.{mostEntries}
 use Rattle.flow.specs.Tables.{emptyEntry, tableOf}
 use Rattle.flow.specs.declared.Action.{Action}
 use Rattle.flow.specs.declared.Action.the-variants.{Remove, Set}
 use Rattle.flow.specs.declared.Table.{Table}
 use Rattle.switch.specs.Slots.{slotFor}
 use Rattle.switch.specs.declared.Slot.{Slot}
-use Rattle.edges.specs.Asking.{Open, share, playbook, applied, setup, shares, figure, good, refused, endRecord}
+use Rattle.edges.specs.Asking.{Open, share, playbook, applied, setup, shares, nothing, figure, good, refused, endRecord}
 use Rattle.edges.specs.Table.{Row, rule}
 
 -- a switch has an id below 16 and one to sixteen controllers
@@ -43,16 +44,19 @@ ports =
 
 -- a table that counts more entries than it has places
 abbrev pub broken : Table
-broken = record { entries = replicate 64 emptyEntry; count = 65 }
+broken = record { entries = replicate mostEntries emptyEntry; count = mostEntries + 1 }
 
 module _ (o : Open) where
   -- a share with number 0 and a malformed rule is refused by 15 and not by 16; a change on switch 16 with no plan before it
-  -- by 12 and not by 34; a malformed rule for a broken table by 20 and not by 15
+  -- by 12 and not by 34; a malformed rule for a broken table by 20 and not by 15; nothing, written past the end of a
+  -- frame, by 25 and not by 26
   abbrev pub orders : List Row
   orders =
       (share 0 (rule o (o .prefix) 33), refused 15)
       ∷ (playbook (0x12 ∷ 0 ∷ 16 ∷ 0x0A ∷ 0 ∷ 0 ∷ 0 ∷ 8 ∷ 0 ∷ 3 ∷ endRecord), refused 12)
       ∷ (applied broken (rule o (o .prefix) 33), refused 20)
+      ∷ (nothing 0 1, refused 25)
+      ∷ (nothing 1 1, refused 26)
       ∷ []
 
   abbrev pub beside : List Row

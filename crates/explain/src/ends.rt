@@ -1,4 +1,5 @@
 // The ends after the last record: each switch's table and held shares, each controller's undone changes.
+use answer::limits;
 use controller::Controller;
 use controller::Held;
 use controller::Undone;
@@ -22,7 +23,7 @@ fn say_table(table: Table) {
     let entries = table.entries;
     let count = table.count;
     let mut i: usize = 0;
-    while i < 64 {
+    while i < limits::ENTRIES {
         if i < count {
             say_entry(entries[i]);
         }
@@ -43,7 +44,7 @@ fn say_slot(controller: u8, slot: Slot) {
 fn say_slots(s: Switch) {
     let slots = s.slots;
     let mut i: u8 = 0;
-    while i < 16 {
+    while i < limits::CONTROLLERS {
         say_slot(i, slots[i as usize]);
         i += 1;
     }
@@ -52,7 +53,7 @@ fn say_slots(s: Switch) {
 fn holds_nothing(s: Switch) -> bool {
     let slots = s.slots;
     let mut i: usize = 0;
-    while i < 16 {
+    while i < limits::OF_CONTROLLERS {
         let slot = slots[i];
         if slot.number != 0 {
             return false;
@@ -86,9 +87,9 @@ fn say_switch(s: Switch) {
     say_slots(s);
 }
 
-fn some_fresh(switches: [Switch; 16]) -> bool {
+fn some_fresh(switches: [Switch; limits::OF_SWITCHES]) -> bool {
     let mut i: usize = 0;
-    while i < 16 {
+    while i < limits::OF_SWITCHES {
         if is_fresh(switches[i]) {
             return true;
         }
@@ -103,17 +104,17 @@ fn say_id(s: Switch) {
     }
 }
 
-fn say_ids(switches: [Switch; 16]) {
+fn say_ids(switches: [Switch; limits::OF_SWITCHES]) {
     let mut i: usize = 0;
-    while i < 16 {
+    while i < limits::OF_SWITCHES {
         say_id(switches[i]);
         i += 1;
     }
 }
 
-fn say_changed(switches: [Switch; 16]) {
+fn say_changed(switches: [Switch; limits::OF_SWITCHES]) {
     let mut i: usize = 0;
-    while i < 16 {
+    while i < limits::OF_SWITCHES {
         say_switch(switches[i]);
         i += 1;
     }
@@ -143,7 +144,7 @@ fn say_undone(held: Held) {
     let changes = held.changes;
     let count = held.count;
     let mut i: usize = 0;
-    while i < 64 {
+    while i < limits::UNDONE {
         if i < count {
             say_undone_change(changes[i]);
         }
@@ -151,19 +152,11 @@ fn say_undone(held: Held) {
     }
 }
 
-fn count_of(held: Held) -> u32 {
-    if held.count <= 64 {
-        held.count as u32
-    } else {
-        64
-    }
-}
-
 // Whether a controller has taken no decision: no serial was decided.
 fn took_none(c: Controller) -> bool {
     let serials = c.progress.serials;
     let mut i: usize = 0;
-    while i < 16 {
+    while i < limits::OF_SWITCHES {
         if serials[i] != 0 {
             return false;
         }
@@ -183,7 +176,7 @@ fn say_controller(c: Controller) {
     let held = c.progress.undone;
     say_name(b"controller", c.id as u32);
     say(b" has ");
-    say_count(count_of(held));
+    say_count(controller::undone_in(held) as u32);
     if held.count == 0 {
         say_nothing_left(c);
     } else {
@@ -196,7 +189,7 @@ pub(crate) fn say_controllers(world: World) {
     let controllers = world.controllers;
     let n = world.n;
     let mut i: u8 = 0;
-    while i < 16 {
+    while i < limits::CONTROLLERS {
         if i < n {
             say_controller(controllers[i as usize]);
         }

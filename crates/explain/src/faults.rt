@@ -7,12 +7,10 @@ use story::say_name;
 // No playbook has more records: 64 plans, 512 changes, an end, and the one that is too many.
 const RECORDS: u32 = 578;
 
+// The bytes of a record; an unknown one is refused by its first byte.
 fn size_of(kind: u8) -> usize {
-    match kind {
-        0x11 => 3,
-        0x12 => 10,
-        _ => 1,
-    }
+    let size = notation::size_of(kind);
+    if size == 0 { 1 } else { size }
 }
 
 // The place after the record at a place.

@@ -4,49 +4,48 @@ mod faults;
 mod plans;
 
 ghost use mathlib.Core.Path.{_≡_};
+ghost use Prim.Native.Nat.{_+_};
 ghost use lib.ListN.{length};
+ghost use Rattle.rehearsal.specs.Limits.{longestInput};
 use libc::STDIN_FILENO;
 use prose::say;
 use prose::say_number;
-use story::STEPS;
-use story::Step;
-use story::Story;
+use rehearsal::DEEDS;
+use rehearsal::Deed;
+use rehearsal::Told;
 
-// One byte more than the longest input that can be rehearsed, as in `rehearse`.
-const INPUT: usize = 13507;
-
-fn for_input() -> [u8; INPUT]
-    ensures { λ r. ⌜ 13507 ≡ length r ⌝ }
+fn for_input() -> [u8; rehearsal::INPUT]
+    ensures { λ r. ⌜ longestInput + 1 ≡ length r ⌝ }
 {
-    [0u8; INPUT]
+    [0u8; rehearsal::INPUT]
 }
 
-// A step: document 01's line, and the record in words beside it.
-fn say_step(n: u8, ordinal: usize, step: Step) {
-    story::say_line(ordinal, step.answer, step.figure);
+// Document 01's line, and the record in words beside it.
+fn say_deed(n: u8, ordinal: usize, deed: Deed) {
+    story::say_line(ordinal, deed.answer, deed.figure);
     say(b"  ");
-    story::say_words(n, step);
+    story::say_words(n, deed);
     say(b"\n");
 }
 
-fn say_steps(n: u8, steps: [Step; STEPS], count: usize) {
+fn say_deeds(n: u8, deeds: [Deed; DEEDS], count: usize) {
     let mut i: usize = 0;
-    while i < STEPS {
+    while i < DEEDS {
         if i < count {
-            say_step(n, i + 1, steps[i]);
+            say_deed(n, i + 1, deeds[i]);
         }
         i += 1;
     }
 }
 
-fn is_refused(step: Step) -> bool {
-    answer::REPEAT < step.answer
+fn is_refused(deed: Deed) -> bool {
+    answer::REPEAT < deed.answer
 }
 
-fn any_refused(steps: [Step; STEPS], count: usize) -> bool {
+fn any_refused(deeds: [Deed; DEEDS], count: usize) -> bool {
     let mut i: usize = 0;
-    while i < STEPS {
-        if i < count && is_refused(steps[i]) {
+    while i < DEEDS {
+        if i < count && is_refused(deeds[i]) {
             return true;
         }
         i += 1;
@@ -54,28 +53,28 @@ fn any_refused(steps: [Step; STEPS], count: usize) -> bool {
     false
 }
 
-fn say_ordinal(ordinal: usize, step: Step) {
-    if is_refused(step) {
+fn say_ordinal(ordinal: usize, deed: Deed) {
+    if is_refused(deed) {
         say(b" ");
         say_number(ordinal as u64);
     }
 }
 
-fn say_ordinals(steps: [Step; STEPS], count: usize) {
+fn say_ordinals(deeds: [Deed; DEEDS], count: usize) {
     let mut i: usize = 0;
-    while i < STEPS {
+    while i < DEEDS {
         if i < count {
-            say_ordinal(i + 1, steps[i]);
+            say_ordinal(i + 1, deeds[i]);
         }
         i += 1;
     }
 }
 
 // Which records were refused, at a glance.
-fn say_refused(steps: [Step; STEPS], count: usize) {
-    if any_refused(steps, count) {
+fn say_refused(deeds: [Deed; DEEDS], count: usize) {
+    if any_refused(deeds, count) {
         say(b"\nrefused are records");
-        say_ordinals(steps, count);
+        say_ordinals(deeds, count);
         say(b"\n");
     }
 }
@@ -93,15 +92,15 @@ fn say_controllers(n: u8) {
     say(b" of them\n\n");
 }
 
-fn explain(told: Story) {
+fn explain(told: Told) {
     let world = told.world;
     let n = world.n;
-    let steps = told.steps;
+    let deeds = told.deeds;
     say_controllers(n);
     plans::say_plans(world);
     say(b"\n");
-    say_steps(n, steps, told.count);
-    say_refused(steps, told.count);
+    say_deeds(n, deeds, told.count);
+    say_refused(deeds, told.count);
     say(b"\n");
     ends::say_switches(world);
     ends::say_controllers(world);

@@ -20,7 +20,7 @@ fn say_change(change: Change) {
 fn say_changes(book: Playbook, first: usize, count: usize) {
     let changes = book.changes;
     let mut i: usize = 0;
-    while i < 512 {
+    while i < playbook::limits::CHANGES {
         if first <= i {
             if i - first < count {
                 say_change(changes[i]);
@@ -48,7 +48,7 @@ pub(crate) fn say_plans(world: World) {
     let plans = book.plans;
     let planned = book.planned;
     let mut i: usize = 0;
-    while i < 64 {
+    while i < playbook::limits::PLANS {
         if i < planned {
             say_plan(book, plans[i]);
         }

@@ -10,7 +10,7 @@ use borrow.Author.Tests.{lt-ltb, le-ltb}
 use lib.ListN.{length}
 use Rattle.answer.specs.Ask.{pick}
 use Rattle.answer.proofs.Bools.{by-bool, tf, and-parts, and-join, is-false}
-use Rattle.flow.specs.Rules.{Key, keyOf, ruleKey, sameKey, prefixOk, wellFormed}
+use Rattle.flow.specs.Rules.{Key, entryKey, ruleKey, sameKey, prefixOk, wellFormed}
 use Rattle.flow.specs.Changes.{applyRule}
 use Rattle.flow.specs.Lookups.{covers, Best, better, bestOf, lookupOf}
 use Rattle.flow.specs.declared.Action.{Action}
@@ -38,14 +38,14 @@ shorter n [] = []
 shorter n (e ∷ es) = pick (ltb (e .length) n) (e ∷ shorter n es) (shorter n es)
 
 -- where every covering entry is shorter than n, the shorter ones give the same
-shorter-best : (address n : ℕ) (es : List Entry) → Each (λ e. covers (keyOf e) address ≡ true → e .length < n) es
+shorter-best : (address n : ℕ) (es : List Entry) → Each (λ e. covers (entryKey e) address ≡ true → e .length < n) es
     → bestOf address (shorter n es) ≡ bestOf address es
 unfolding shorter bestOf
 shorter-best address n [] u = refl
 shorter-best address n (e ∷ es) u =
     let ih = shorter-best address n es (λ i l. u (suc i) (omega arith)) in
-    by-bool (ltb (e .length) n) (λ l. rw l (ap (better (covers (keyOf e) address) e) ih))
-    (λ l. let c : covers (keyOf e) address ≡ false = is-false _ (λ d. tf (lt-ltb _ _ (u 0 (omega arith) d)) l) in
+    by-bool (ltb (e .length) n) (λ l. rw l (ap (better (covers (entryKey e) address) e) ih))
+    (λ l. let c : covers (entryKey e) address ≡ false = is-false _ (λ d. tf (lt-ltb _ _ (u 0 (omega arith) d)) l) in
     rw (l, c) ih)
 
 -- a removal changes nothing among the entries shorter than its key
@@ -53,7 +53,7 @@ removal-shorter : (k : Key) {es fs : List Entry} → Acts Remove k es fs → sho
 unfolding shorter
 removal-shorter k (past {e} b s) = rw (removal-shorter k s)
 removal-shorter k (over {e} {es} s) =
-    rw (le-ltb (e .length) (k .1) (omega (arith, ap (λ (j : Key). j .1) (key-sound (keyOf e) k s))))
+    rw (le-ltb (e .length) (k .1) (omega (arith, ap (λ (j : Key). j .1) (key-sound (entryKey e) k s))))
 removal-shorter k (own b) = refl
 
 module _ (address : ℕ) (r : Rule) (es : List Entry) (h : Ordered es) (w : wellFormed r ≡ true) where
@@ -86,11 +86,11 @@ module _ (address : ℕ) (r : Rule) (es : List Entry) (h : Ordered es) (w : well
           (λ s. tf (ap (λ (j : Key). covers j address) (key-sound (ruleKey r) k s) ∙ d) u)
 
   -- some entry that covers the address is longer than the rule: as before
-  pub after-longer : (i : ℕ) → i < length es → covers (keyOf (entryAt es i)) address ≡ true
+  pub after-longer : (i : ℕ) → i < length es → covers (entryKey (entryAt es i)) address ≡ true
       → r .length < entryAt es i .length → lookupOf address (applyRule r es) ≡ lookupOf address es
   after-longer i inside c l = go (lookup-answers address es h)
     where
-      reach : reaches address (keyOf (entryAt es i)) ≡ true
+      reach : reaches address (entryKey (entryAt es i)) ≡ true
       reach = entry-reaches address es h i inside c
 
       go : {f : Found} → Answers address (λ k. portAt k es) f → lookupOf address (applyRule r es) ≡ f
@@ -125,10 +125,10 @@ module _ (address : ℕ) (r : Rule) (es : List Entry) (h : Ordered es) (w : well
 
     -- a removal leaves only covering entries that are shorter than the rule
     removal-less : r .action ≡ Remove
-        → Each (λ e. covers (keyOf e) address ≡ true → e .length < r .length) (applyRule r es)
+        → Each (λ e. covers (entryKey e) address ≡ true → e .length < r .length) (applyRule r es)
     removal-less a i inside d =
         let after = apply-ordered r es w h in
-        let k = keyOf (entryAt (applyRule r es) i) in
+        let k = entryKey (entryAt (applyRule r es) i) in
         let reach = entry-reaches address (applyRule r es) after i inside d in
         let has = sym (apply-port k r es h) ∙ port-at (applyRule r es) after i inside in
         let one = cover-one address (ruleKey r) k own-reach reach in

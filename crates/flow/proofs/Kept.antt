@@ -16,8 +16,8 @@ use Rattle.lists.specs.Arrays.{pad, everyTail, every}
 use Rattle.lists.specs.Kinds.{among}
 use Rattle.lists.proofs.Padding.{pad-take, pad-split}
 use Rattle.lists.proofs.Tails.{replicate-every}
-use Rattle.flow.specs.Rules.{Key, keyOf, ruleKey, before, sameKey, prefixOk, portOk, wellFormed}
-use Rattle.flow.specs.Tables.{headOk, entryOk, isEmpty, emptyEntry, tableOk, tableOf, meaning}
+use Rattle.flow.specs.Rules.{Key, entryKey, ruleKey, before, sameKey, prefixOk, portOk, wellFormed}
+use Rattle.flow.specs.Tables.{headOk, entryOk, isEmpty, emptyEntry, tableOk, tableOf, entriesOf}
 use Rattle.flow.specs.Changes.{setEntry, dropEntry, applyRule, changed, removes, hasEntry, roomFor, applyTo}
 use Rattle.flow.specs.declared.Action.{Action}
 use Rattle.flow.specs.declared.Action.the-variants.{Remove, Set}
@@ -36,14 +36,14 @@ Ordered es = everyTail headOk es ≡ true
 -- the parts of an ordered list
 pub record Parts (e : Entry) (es : List Entry) : Type 0 where
   pub fit : entryOk e ≡ true
-  pub next : first (keyOf e) es ≡ true
+  pub next : first (entryKey e) es ≡ true
   pub rest : Ordered es
 
 pub parts : (e : Entry) (es : List Entry) → Ordered (e ∷ es) → Parts e es
 unfolding everyTail
 parts e es h =
     let t = and-parts (headOk (e ∷ es)) (everyTail headOk es) h in
-    let u = and-parts (entryOk e) (first (keyOf e) es) (t .0) in
+    let u = and-parts (entryOk e) (first (entryKey e) es) (t .0) in
     record { fit = u .0; next = u .1; rest = t .1 }
 
 pub whole : (e : Entry) (es : List Entry) → Parts e es → Ordered (e ∷ es)
@@ -52,7 +52,7 @@ whole e es p = and-join (headOk (e ∷ es)) _ (and-join (entryOk e) _ (p .fit) (
 
 first-trans : (j k : Key) (es : List Entry) → before j k ≡ true → first k es ≡ true → first j es ≡ true
 first-trans j k [] b h = refl
-first-trans j k (e ∷ es) b h = before-trans j k (keyOf e) b h
+first-trans j k (e ∷ es) b h = before-trans j k (entryKey e) b h
 
 -- a key before the first entry is no entry's
 pub none-first : (k : Key) (es : List Entry) → Ordered es → first k es ≡ true → hasEntry k es ≡ false
@@ -60,13 +60,13 @@ unfolding among
 none-first k [] h b = refl
 none-first k (e ∷ es) h b =
     let t = parts e es h in
-    or-join (sameKey (keyOf e) k) _ (after-apart k (keyOf e) b)
-    (none-first k es (t .rest) (first-trans k (keyOf e) es b (t .next)))
+    or-join (sameKey (entryKey e) k) _ (after-apart k (entryKey e) b)
+    (none-first k es (t .rest) (first-trans k (entryKey e) es b (t .next)))
 
 -- the entries after the first come after its key
-pub first-after : (k : Key) (e : Entry) (es : List Entry) → sameKey (keyOf e) k ≡ true → Ordered (e ∷ es)
+pub first-after : (k : Key) (e : Entry) (es : List Entry) → sameKey (entryKey e) k ≡ true → Ordered (e ∷ es)
     → first k es ≡ true
-first-after k e es s h = subst (λ (j : Key). first j es ≡ true) (key-sound (keyOf e) k s) (parts e es h .next)
+first-after k e es s h = subst (λ (j : Key). first j es ≡ true) (key-sound (entryKey e) k s) (parts e es h .next)
 
 -- whether what an action puts in may stand in a table
 abbrev fits : Action → Key → Bool
@@ -86,13 +86,13 @@ module _ (a : Action) (k : Key) where
   acts-first : (j : Key) {es fs : List Entry} → Acts a k es fs → Ordered es → before j k ≡ true → first j es ≡ true
       → first j fs ≡ true
   acts-first j (past b s) h c d = d
-  acts-first j (over {e} {es} s) h c d = fresh-first a j k es c (first-trans j (keyOf e) es d (parts e es h .next))
+  acts-first j (over {e} {es} s) h c d = fresh-first a j k es c (first-trans j (entryKey e) es d (parts e es h .next))
   acts-first j (own {es} b) h c d = fresh-first a j k es c d
 
   acts-ordered : {es fs : List Entry} → Acts a k es fs → fits a k ≡ true → Ordered es → Ordered fs
   acts-ordered (past {e} {es} {fs} b s) w h =
       let t = parts e es h in
-      let next = acts-first (keyOf e) s (t .rest) b (t .next) in
+      let next = acts-first (entryKey e) s (t .rest) b (t .next) in
       whole e fs (record { fit = t .fit; next = next; rest = acts-ordered s w (t .rest) })
   acts-ordered (over {e} {es} s) w h = fresh-ordered a k es w (first-after k e es s h) (parts e es h .rest)
   acts-ordered (own {es} b) w h = fresh-ordered a k es w b h
@@ -102,14 +102,14 @@ module _ (a : Action) (k : Key) where
       → length fs + pick (hasEntry k es) 1 0 ≡ length es + length (fresh a k)
   unfolding among
   acts-count (past {e} {es} b s) h =
-      rw (before-apart (keyOf e) k b) (omega (arith, acts-count s (parts e es h .rest)))
+      rw (before-apart (entryKey e) k b) (omega (arith, acts-count s (parts e es h .rest)))
   acts-count (over {e} {es} s) h = rw (s, length-append) (omega arith)
   acts-count (own {es} b) h = rw (none-first k es h b, length-append) (omega arith)
 
 -- the entry set: one more, or as many where its key was there
 pub set-count : (e : Entry) (es : List Entry) → Ordered es
-    → length (setEntry e es) ≡ pick (hasEntry (keyOf e) es) (length es) (suc (length es))
-set-count e es h = go (hasEntry (keyOf e) es) (acts-count (Set (e .port)) (keyOf e) (acts _ _ es) h)
+    → length (setEntry e es) ≡ pick (hasEntry (entryKey e) es) (length es) (suc (length es))
+set-count e es h = go (hasEntry (entryKey e) es) (acts-count (Set (e .port)) (entryKey e) (acts _ _ es) h)
   where
     go : (b : Bool) → length (setEntry e es) + pick b 1 0 ≡ length es + 1
         → length (setEntry e es) ≡ pick b (length es) (suc (length es))
@@ -138,7 +138,7 @@ room-back r es h n = go (r .action) (hasEntry (ruleKey r) es) _ n (acts-count _ 
 
 -- an entry set, an entry removed, and so a rule applied keep the order
 pub set-ordered : (e : Entry) (es : List Entry) → entryOk e ≡ true → Ordered es → Ordered (setEntry e es)
-set-ordered e es w h = acts-ordered (Set (e .port)) (keyOf e) (acts _ _ es) w h
+set-ordered e es w h = acts-ordered (Set (e .port)) (entryKey e) (acts _ _ es) w h
 
 pub drop-ordered : (k : Key) (es : List Entry) → Ordered es → Ordered (dropEntry k es)
 drop-ordered k es h = acts-ordered Remove k (acts _ _ es) refl h
@@ -148,7 +148,7 @@ apply-ordered r es w h =
     acts-ordered (r .action) (ruleKey r) (acts _ _ es) (or-right (removes (r .action)) (wellFormed r) w) h
 
 -- the table made of a list has its entries, and is a good table if they are ordered
-pub table-meaning : (es : List Entry) → length es ≤ 64 → meaning (tableOf es) ≡ es
+pub table-meaning : (es : List Entry) → length es ≤ 64 → entriesOf (tableOf es) ≡ es
 table-meaning es n = pad-take 64 emptyEntry es n
 
 pub table-ok : (es : List Entry) → length es ≤ 64 → Ordered es → tableOk (tableOf es) ≡ true
@@ -158,24 +158,24 @@ table-ok es n h =
     let ordered = ap (everyTail headOk) (table-meaning es n) ∙ h in
     let unused : every isEmpty (drop (length es) (pad 64 emptyEntry es)) ≡ true =
     rw (pad-split 64 emptyEntry es n, drop-append-seam) (replicate-every isEmpty emptyEntry (64 - length es) refl) in
-    and-join (few && everyTail headOk (meaning (tableOf es))) _ (and-join few _ (le-leb _ _ n) ordered) unused
+    and-join (few && everyTail headOk (entriesOf (tableOf es))) _ (and-join few _ (le-leb _ _ n) ordered) unused
 
 -- the entries of a good table are ordered, and at most 64
-pub ok-ordered : (t : Table) → tableOk t ≡ true → Ordered (meaning t)
+pub ok-ordered : (t : Table) → tableOk t ≡ true → Ordered (entriesOf t)
 ok-ordered t h = ok-parts t h .1
 
-pub ok-few : (t : Table) → tableOk t ≡ true → length (meaning t) ≤ 64
+pub ok-few : (t : Table) → tableOk t ≡ true → length (entriesOf t) ≤ 64
 ok-few t h = simp length-take (omega (arith, ok-parts t h .0))
 
 -- a rule that has room makes a good table of a good table
-pub apply-table : (r : Rule) (t : Table) → wellFormed r ≡ true → tableOk t ≡ true → roomFor r (meaning t) ≡ true
+pub apply-table : (r : Rule) (t : Table) → wellFormed r ≡ true → tableOk t ≡ true → roomFor r (entriesOf t) ≡ true
     → tableOk (changed r t) ≡ true
 apply-table r t w h m =
     let o = ok-ordered t h in
-    table-ok (applyRule r (meaning t)) (room-law r (meaning t) o (ok-few t h) m) (apply-ordered r (meaning t) w o)
+    table-ok (applyRule r (entriesOf t)) (room-law r (entriesOf t) o (ok-few t h) m) (apply-ordered r (entriesOf t) w o)
 
 -- such a rule is applied, and so every call of apply keeps a good table: a refused one leaves it
-pub apply-done : (t : Table) (r : Rule) → tableOk t ≡ true → wellFormed r ≡ true → roomFor r (meaning t) ≡ true
+pub apply-done : (t : Table) (r : Rule) → tableOk t ≡ true → wellFormed r ≡ true → roomFor r (entriesOf t) ≡ true
     → applyTo t r ≡ record { answer = 1; table = changed r t }
 unfolding reply
 apply-done t r h w m = rw (h, w, m)

@@ -9,9 +9,10 @@ use lib.ListN.{length, getD, length-map}
 use Rattle.answer.proofs.Bools.{by-bool, by-or, tf, and-join, or-left, or-right}
 use Rattle.lists.specs.Kinds.{among, different, kinds}
 use Rattle.lists.proofs.Pigeonhole.{pigeonhole}
-use Rattle.flow.specs.Rules.{Key, keyOf, ruleKey, before, sameKey, wellFormed}
+use Rattle.flow.specs.Rules.{Key, entryKey, ruleKey, before, sameKey, wellFormed}
 use Rattle.flow.specs.Tables.{emptyEntry, tableOk, tableOf}
-use Rattle.flow.specs.Changes.{applyRule, hasEntry, roomFor, placeOf, presentAt}
+use Rattle.flow.specs.Changes.{applyRule, hasEntry, roomFor}
+use Rattle.flow.specs.Places.{placeOf, presentAt}
 use Rattle.flow.specs.declared.Action.{Action}
 use Rattle.flow.specs.declared.Action.the-variants.{Remove, Set}
 use Rattle.flow.specs.declared.Entry.{Entry}
@@ -25,35 +26,35 @@ abbrev pub entryAt : List Entry → ℕ → Entry
 entryAt es i = getD es i emptyEntry
 
 -- no two entries have one key
-pub keys-different : (es : List Entry) → Ordered es → different sameKey (map keyOf es) ≡ true
+pub keys-different : (es : List Entry) → Ordered es → different sameKey (map entryKey es) ≡ true
 unfolding different
 keys-different [] h = refl
 keys-different (e ∷ es) h =
     let t = parts e es h in
-    and-join (not (hasEntry (keyOf e) es)) _ (ap not (none-first (keyOf e) es (t .rest) (t .next)))
+    and-join (not (hasEntry (entryKey e) es)) _ (ap not (none-first (entryKey e) es (t .rest) (t .next)))
     (keys-different es (t .rest))
 
 -- some entry has this key
 pub record Placed (k : Key) (es : List Entry) : Type 0 where
   pub place : ℕ
   pub inside : place < length es
-  pub key : keyOf (entryAt es place) ≡ k
+  pub key : entryKey (entryAt es place) ≡ k
 
 -- an entry is found exactly if some entry has this prefix and length
 pub has-entry : (k : Key) (es : List Entry) → hasEntry k es ≡ true → Placed k es
 unfolding among
 has-entry k [] h = tf h refl
 has-entry k (e ∷ es) h =
-    by-or (sameKey (keyOf e) k) _ h
-    (λ s. record { place = 0; inside = omega arith; key = key-sound (keyOf e) k s })
+    by-or (sameKey (entryKey e) k) _ h
+    (λ s. record { place = 0; inside = omega arith; key = key-sound (entryKey e) k s })
     (λ m. let p = has-entry k es m in
     record { place = suc (p .place); inside = omega (arith, p .inside); key = p .key })
 
-entry-at : (es : List Entry) (i : ℕ) → i < length es → hasEntry (keyOf (entryAt es i)) es ≡ true
+entry-at : (es : List Entry) (i : ℕ) → i < length es → hasEntry (entryKey (entryAt es i)) es ≡ true
 unfolding among
 entry-at [] i h = absurd (omega arith)
-entry-at (e ∷ es) zero h = or-left _ _ (key-mine (keyOf e))
-entry-at (e ∷ es) (suc i) h = or-right (sameKey (keyOf e) _) _ (entry-at es i (omega arith))
+entry-at (e ∷ es) zero h = or-left _ _ (key-mine (entryKey e))
+entry-at (e ∷ es) (suc i) h = or-right (sameKey (entryKey e) _) _ (entry-at es i (omega arith))
 
 pub entry-has : (k : Key) (es : List Entry) → Placed k es → hasEntry k es ≡ true
 entry-has k es p = ap (λ (j : Key). hasEntry j es) (sym (p .key)) ∙ entry-at es (p .place) (p .inside)
@@ -64,9 +65,9 @@ unfolding among placeOf
 has-place k [] h = refl
 has-place k (e ∷ es) h =
     let t = parts e es h in
-    by-bool (before (keyOf e) k) (λ b. rw (b, before-apart (keyOf e) k b) (has-place k es (t .rest)))
-    (λ b. by-bool (sameKey (keyOf e) k) (λ s. rw (b, s))
-    (λ s. rw b (none-first k (e ∷ es) h (before-other (keyOf e) k b s) ∙ sym s)))
+    by-bool (before (entryKey e) k) (λ b. rw (b, before-apart (entryKey e) k b) (has-place k es (t .rest)))
+    (λ b. by-bool (sameKey (entryKey e) k) (λ s. rw (b, s))
+    (λ s. rw b (none-first k (e ∷ es) h (before-other (entryKey e) k b s) ∙ sym s)))
 
 or-more : (a b c : Bool) → (a || c) ≡ true → (a || (b || c)) ≡ true
 or-more true b c h = refl
@@ -82,9 +83,9 @@ acts-keys : (a : Action) (j k : Key) {es fs : List Entry} → Acts a k es fs →
     → (sameKey k j || hasEntry j es) ≡ true
 unfolding among
 acts-keys a j k (past {e} b s) h =
-    by-or (sameKey (keyOf e) j) _ h (λ q. or-right (sameKey k j) _ (or-left _ _ q))
-    (λ q. or-more (sameKey k j) (sameKey (keyOf e) j) _ (acts-keys a j k s q))
-acts-keys a j k (over {e} {es} s) h = or-more (sameKey k j) (sameKey (keyOf e) j) _ (fresh-keys a j k es h)
+    by-or (sameKey (entryKey e) j) _ h (λ q. or-right (sameKey k j) _ (or-left _ _ q))
+    (λ q. or-more (sameKey k j) (sameKey (entryKey e) j) _ (acts-keys a j k s q))
+acts-keys a j k (over {e} {es} s) h = or-more (sameKey k j) (sameKey (entryKey e) j) _ (fresh-keys a j k es h)
 acts-keys a j k (own {es} b) h = fresh-keys a j k es h
 
 -- a rule brings no key but its own
@@ -105,8 +106,8 @@ apply-within ks r es m w k h =
 -- a table whose keys are in a list has at most as many entries as the list has different keys
 pub table-few : (ks : List Key) (es : List Entry) → Ordered es → Within ks es → length es ≤ kinds sameKey ks
 table-few ks es h w =
-    let n = pigeonhole sameKey key-sound key-mine (map keyOf es) ks (keys-different es h) w in
-    omega (arith, length-map es keyOf)
+    let n = pigeonhole sameKey key-sound key-mine (map entryKey es) ks (keys-different es h) w in
+    omega (arith, length-map es entryKey)
 
 -- a table whose keys are in a list of at most 64 different keys has room for each rule whose key is, and stays so
 pub record Takes (ks : List Key) (r : Rule) (es : List Entry) : Type 0 where

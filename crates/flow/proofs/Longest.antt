@@ -9,7 +9,7 @@ use lib.Dec.{leb}
 use borrow.Author.Tests.{leb-true, leb-false, le-leb}
 use lib.ListN.{length}
 use Rattle.answer.proofs.Bools.{by-bool, tf}
-use Rattle.flow.specs.Rules.{keyOf}
+use Rattle.flow.specs.Rules.{entryKey}
 use Rattle.flow.specs.Lookups.{covers, Best, better, bestOf, lookupOf}
 use Rattle.flow.specs.declared.Entry.{Entry}
 use Rattle.flow.specs.declared.Found.{Found}
@@ -26,17 +26,17 @@ Each P es = (i : ℕ) → i < length es → P (entryAt es i)
 
 -- no entry covers the address
 abbrev pub Uncovered : ℕ → List Entry → Type 0
-Uncovered address es = Each (λ e. covers (keyOf e) address ≡ false) es
+Uncovered address es = Each (λ e. covers (entryKey e) address ≡ false) es
 
 -- no entry that covers the address is longer than n
 abbrev pub NoLonger : ℕ → ℕ → List Entry → Type 0
-NoLonger address n es = Each (λ e. covers (keyOf e) address ≡ true → e .length ≤ n) es
+NoLonger address n es = Each (λ e. covers (entryKey e) address ≡ true → e .length ≤ n) es
 
 -- the port of an entry that covers the address, and no covering entry is longer
 pub record Longest (address : ℕ) (es : List Entry) (f : Found) : Type 0 where
   pub place : ℕ
   pub inside : place < length es
-  pub covering : covers (keyOf (entryAt es place)) address ≡ true
+  pub covering : covers (entryKey (entryAt es place)) address ≡ true
   pub port : f ≡ Port (entryAt es place .port)
   pub longest : NoLonger address (entryAt es place .length) es
 
@@ -46,17 +46,17 @@ pub data Looked (address : ℕ) (es : List Entry) (b : Best) : Type 0 where
   covered : (w : Longest address es (b .0)) → b .1 ≡ entryAt es (w .place) .length → Looked address es b
 
 module _ (address : ℕ) (e : Entry) (es : List Entry) where
-  uncovered-more : covers (keyOf e) address ≡ false → Uncovered address es → Uncovered address (e ∷ es)
+  uncovered-more : covers (entryKey e) address ≡ false → Uncovered address es → Uncovered address (e ∷ es)
   uncovered-more c u zero h = c
   uncovered-more c u (suc i) h = u i (omega arith)
 
-  no-longer-more : (n : ℕ) → (covers (keyOf e) address ≡ true → e .length ≤ n) → NoLonger address n es
+  no-longer-more : (n : ℕ) → (covers (entryKey e) address ≡ true → e .length ≤ n) → NoLonger address n es
       → NoLonger address n (e ∷ es)
   no-longer-more n l u zero h = l
   no-longer-more n l u (suc i) h = u i (omega arith)
 
   -- the longest is the first entry, or another
-  here : covers (keyOf e) address ≡ true → NoLonger address (e .length) es
+  here : covers (entryKey e) address ≡ true → NoLonger address (e .length) es
       → Looked address (e ∷ es) (Port (e .port), e .length)
   here c l =
       covered (record {
@@ -67,7 +67,7 @@ module _ (address : ℕ) (e : Entry) (es : List Entry) where
         longest = no-longer-more (e .length) (λ d. omega arith) l;
       }) refl
 
-  there : (b : Best) → (covers (keyOf e) address ≡ true → e .length ≤ b .1)
+  there : (b : Best) → (covers (entryKey e) address ≡ true → e .length ≤ b .1)
       → (w : Longest address es (b .0)) → b .1 ≡ entryAt es (w .place) .length → Looked address (e ∷ es) b
   there b l w n =
       covered (record {
@@ -78,11 +78,11 @@ module _ (address : ℕ) (e : Entry) (es : List Entry) where
         longest = no-longer-more _ (λ d. omega (arith, l d)) (w .longest);
       }) n
 
-  past-first : (b : Best) → covers (keyOf e) address ≡ false → Looked address es b → Looked address (e ∷ es) b
+  past-first : (b : Best) → covers (entryKey e) address ≡ false → Looked address es b → Looked address (e ∷ es) b
   past-first b c (uncovered n u) = uncovered n (uncovered-more c u)
   past-first b c (covered w n) = there b (λ d. tf d c) w n
 
-  at-first : (b : Best) → covers (keyOf e) address ≡ true → Looked address es b
+  at-first : (b : Best) → covers (entryKey e) address ≡ true → Looked address es b
       → Looked address (e ∷ es) (better true e b)
   at-first b c (uncovered n u) =
       rw (le-leb (b .1) (e .length) (omega (arith, ap (λ (x : Best). x .1) n))) (here c (λ i h d. tf d (u i h)))
@@ -95,7 +95,7 @@ pub looked : (address : ℕ) (es : List Entry) → Looked address es (bestOf add
 unfolding bestOf
 looked address [] = uncovered refl (λ i h. absurd (omega arith))
 looked address (e ∷ es) =
-    by-bool (covers (keyOf e) address)
+    by-bool (covers (entryKey e) address)
     (λ c. rw c (at-first address e es (bestOf address es) c (looked address es)))
     (λ c. rw c (past-first address e es (bestOf address es) c (looked address es)))
 

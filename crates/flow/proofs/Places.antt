@@ -16,11 +16,12 @@ use Rattle.answer.proofs.Bools.{by-bool, tf, pick-ap}
 use Rattle.lists.specs.Kinds.{among}
 use Rattle.lists.proofs.Stores.{front, back}
 use Rattle.lists.proofs.Tails.{tail-step}
-use Rattle.flow.specs.Rules.{Key, keyOf, ruleKey, before, sameKey}
+use Rattle.flow.specs.Rules.{Key, entryKey, ruleKey, before, sameKey}
 use Rattle.flow.specs.Tables.{emptyEntry, entryOk, headOk}
 use Rattle.flow.specs.Changes.{setEntry, dropEntry, act, applyRule, hasEntry}
-use Rattle.flow.specs.Changes.{placeOf, heads, presentAt}
-use Rattle.lists.specs.Arrays.{put, del, everyTail}
+use Rattle.flow.specs.Places.{placeOf, heads, presentAt}
+use Rattle.lists.specs.Arrays.{everyTail}
+use Rattle.lists.specs.Places.{put, del}
 use Rattle.flow.specs.Lookups.{Best, covers, better, bestOf}
 use Rattle.flow.specs.declared.Action.{Action}
 use Rattle.flow.specs.declared.Action.the-variants.{Remove, Set}
@@ -31,7 +32,7 @@ use Rattle.flow.specs.declared.Found.the-variants.{Port, Nothing}
 pub place-le : (k : Key) (es : List Entry) → placeOf k es ≤ length es
 unfolding placeOf
 place-le k [] = zero-le
-place-le k (f ∷ fs) = by-bool (before (keyOf f) k) (λ b. rw b (suc-le-suc (place-le k fs))) (λ b. rw b zero-le)
+place-le k (f ∷ fs) = by-bool (before (entryKey f) k) (λ b. rw b (suc-le-suc (place-le k fs))) (λ b. rw b zero-le)
 
 -- only a place of the list has an entry
 pub present-lt : (k : Key) (at : ℕ) (es : List Entry) → presentAt at k es ≡ true → at < length es
@@ -42,15 +43,15 @@ present-lt k (suc at) (f ∷ fs) e = suc-le-suc (present-lt k at fs e)
 
 -- an entry set takes the place of the one with its key, or is put in there
 pub set-law : (e : Entry) (es : List Entry)
-    → setEntry e es ≡ pick (presentAt (placeOf (keyOf e) es) (keyOf e) es) (set es (placeOf (keyOf e) es) e)
-    (put (placeOf (keyOf e) es) e es)
+    → setEntry e es ≡ pick (presentAt (placeOf (entryKey e) es) (entryKey e) es) (set es (placeOf (entryKey e) es) e)
+    (put (placeOf (entryKey e) es) e es)
 unfolding placeOf setEntry
 set-law e [] = refl
 set-law e (f ∷ fs) =
-    let at = placeOf (keyOf e) fs in
-    by-bool (before (keyOf f) (keyOf e))
+    let at = placeOf (entryKey e) fs in
+    by-bool (before (entryKey f) (entryKey e))
     (λ b. rw b (ap (λ (l : List Entry). f ∷ l) (set-law e fs)
-    ∙ sym (pick-ap (λ (l : List Entry). f ∷ l) (presentAt at (keyOf e) fs) (set fs at e) (put at e fs))))
+    ∙ sym (pick-ap (λ (l : List Entry). f ∷ l) (presentAt at (entryKey e) fs) (set fs at e) (put at e fs))))
     (λ b. rw b)
 
 -- an entry removed is the one at the place of its key, if it stands there
@@ -60,7 +61,7 @@ unfolding placeOf dropEntry
 drop-law k [] = refl
 drop-law k (f ∷ fs) =
     let at = placeOf k fs in
-    by-bool (before (keyOf f) k)
+    by-bool (before (entryKey f) k)
     (λ b. rw b (ap (λ (l : List Entry). f ∷ l) (drop-law k fs)
     ∙ sym (pick-ap (λ (l : List Entry). f ∷ l) (presentAt at k fs) (del at fs) fs)))
     (λ b. rw b)
@@ -97,7 +98,7 @@ module _ (n i : ℕ) (es : List Entry) where
   pub pair-step : i + 1 < n → n ≤ length es
       → let e = getD es i emptyEntry in
       everyTail headOk (drop i (take n es))
-      ≡ ((entryOk e && before (keyOf e) (keyOf (getD es (i + 1) emptyEntry)))
+      ≡ ((entryOk e && before (entryKey e) (entryKey (getD es (i + 1) emptyEntry)))
       && everyTail headOk (drop (i + 1) (take n es)))
   pair-step h f =
       let next = front es n (i + 1) emptyEntry h f in
@@ -112,7 +113,7 @@ module _ (n i : ℕ) (es : List Entry) where
 
   -- what stands at a place
   pub present-here : (k : Key) → i < n → n ≤ length es
-      → presentAt i k (take n es) ≡ sameKey (keyOf (getD es i emptyEntry)) k
+      → presentAt i k (take n es) ≡ sameKey (entryKey (getD es i emptyEntry)) k
   present-here k h f = ap (heads k) (front es n i emptyEntry h f)
 
   pub present-none : (k : Key) → n ≤ i → presentAt i k (take n es) ≡ false
@@ -121,18 +122,18 @@ module _ (n i : ℕ) (es : List Entry) where
   -- the i-th entry decides where the search for a place goes: on, or no further; past the last it ends
   place-at : (k : Key) → i < n → n ≤ length es
       → placeOf k (drop i (take n es))
-      ≡ pick (before (keyOf (getD es i emptyEntry)) k) (suc (placeOf k (drop (i + 1) (take n es)))) 0
+      ≡ pick (before (entryKey (getD es i emptyEntry)) k) (suc (placeOf k (drop (i + 1) (take n es)))) 0
   unfolding placeOf
   place-at k h f = ap (placeOf k) (front es n i emptyEntry h f) ∙ rw add-one
 
-  pub place-again : (k : Key) → i < n → n ≤ length es → before (keyOf (getD es i emptyEntry)) k ≡ true
+  pub place-again : (k : Key) → i < n → n ≤ length es → before (entryKey (getD es i emptyEntry)) k ≡ true
       → placeOf k (take n es) ≡ i + placeOf k (drop i (take n es))
       → placeOf k (take n es) ≡ i + 1 + placeOf k (drop (i + 1) (take n es))
   place-again k h f b e =
       let left : placeOf k (drop i (take n es)) ≡ suc (placeOf k (drop (i + 1) (take n es))) = place-at k h f ∙ rw b in
       omega arith
 
-  pub place-found : (k : Key) → i < n → n ≤ length es → before (keyOf (getD es i emptyEntry)) k ≡ false
+  pub place-found : (k : Key) → i < n → n ≤ length es → before (entryKey (getD es i emptyEntry)) k ≡ false
       → placeOf k (take n es) ≡ i + placeOf k (drop i (take n es)) → i ≡ placeOf k (take n es)
   place-found k h f b e =
       let left : placeOf k (drop i (take n es)) ≡ 0 = place-at k h f ∙ rw b in
@@ -148,7 +149,7 @@ module _ (n i : ℕ) (es : List Entry) where
   -- the search for an entry at the i-th, and past the last
   pub has-step : (k : Key) → i < n → n ≤ length es
       → hasEntry k (drop i (take n es))
-      ≡ (sameKey (keyOf (getD es i emptyEntry)) k || hasEntry k (drop (i + 1) (take n es)))
+      ≡ (sameKey (entryKey (getD es i emptyEntry)) k || hasEntry k (drop (i + 1) (take n es)))
   unfolding among
   has-step k h f = ap (hasEntry k) (front es n i emptyEntry h f) ∙ rw add-one
 
@@ -163,32 +164,32 @@ module _ (n i : ℕ) (es : List Entry) where
 
   pub best-step : (address : ℕ) → 0 < i → i ≤ n → n ≤ length es
       → bestOf address (drop (i - 1) (take n es))
-      ≡ better (covers (keyOf (getD es (i - 1) emptyEntry)) address) (getD es (i - 1) emptyEntry)
+      ≡ better (covers (entryKey (getD es (i - 1) emptyEntry)) address) (getD es (i - 1) emptyEntry)
       (bestOf address (drop i (take n es)))
   unfolding bestOf
   best-step address h k f =
       let e = getD es (i - 1) emptyEntry in
       let next : suc (i - 1) ≡ i = omega arith in
       ap (bestOf address) (front es n (i - 1) emptyEntry (omega arith) f)
-      ∙ ap (λ (j : ℕ). better (covers (keyOf e) address) e (bestOf address (drop j (take n es)))) next
+      ∙ ap (λ (j : ℕ). better (covers (entryKey e) address) e (bestOf address (drop j (take n es)))) next
 
   module _ (address at : ℕ) (first : 0 < i) (within : i ≤ n) (full : n ≤ length es)
       (held : bestAt es at ≡ bestOf address (drop i (take n es))) where
     best-turn : let e = getD es (i - 1) emptyEntry in
-        bestOf address (drop (i - 1) (take n es)) ≡ better (covers (keyOf e) address) e (bestAt es at)
+        bestOf address (drop (i - 1) (take n es)) ≡ better (covers (entryKey e) address) e (bestAt es at)
     best-turn = rw held (best-step address first within full)
 
     -- an entry that covers the address takes the place of a shorter one or an equal one, or of none
     pub best-longer : let e = getD es (i - 1) emptyEntry in
-        n ≤ 64 → covers (keyOf e) address ≡ true → leb (bestAt es at .1) (e .length) ≡ true
+        n ≤ 64 → covers (entryKey e) address ≡ true → leb (bestAt es at .1) (e .length) ≡ true
         → bestAt es (i - 1) ≡ bestOf address (drop (i - 1) (take n es))
     best-longer few c l = best-in es (i - 1) (omega arith) ∙ sym (best-turn ∙ rw (c, l))
 
     pub best-shorter : let e = getD es (i - 1) emptyEntry in
-        covers (keyOf e) address ≡ true → leb (bestAt es at .1) (e .length) ≡ false
+        covers (entryKey e) address ≡ true → leb (bestAt es at .1) (e .length) ≡ false
         → bestAt es at ≡ bestOf address (drop (i - 1) (take n es))
     best-shorter c l = sym (best-turn ∙ rw (c, l))
 
-    pub best-apart : covers (keyOf (getD es (i - 1) emptyEntry)) address ≡ false
+    pub best-apart : covers (entryKey (getD es (i - 1) emptyEntry)) address ≡ false
         → bestAt es at ≡ bestOf address (drop (i - 1) (take n es))
     best-apart c = sym (best-turn ∙ rw c)

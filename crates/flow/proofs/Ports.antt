@@ -12,7 +12,7 @@ use borrow.Author.Tests.{eqb-true}
 use Rattle.answer.specs.Ask.{pick}
 use Rattle.answer.proofs.Bools.{by-bool, tf, and-parts, and-join, or-none, is-false}
 use Rattle.lists.specs.Kinds.{among}
-use Rattle.flow.specs.Rules.{Key, keyOf, ruleKey, sameKey, sizeOf, prefixOk}
+use Rattle.flow.specs.Rules.{Key, entryKey, ruleKey, sameKey, blockSize, prefixOk}
 use Rattle.flow.specs.Tables.{entryOk}
 use Rattle.flow.specs.Changes.{applyRule, hasEntry}
 use Rattle.flow.specs.Lookups.{covers, Best, lookupOf}
@@ -31,7 +31,7 @@ use Rattle.flow.proofs.Longest.{some-port, Each, Uncovered, NoLonger, L
 -- the port of an entry by its key
 unfoldable pub portAt : Key → List Entry → Found
 portAt k [] = Nothing
-portAt k (e ∷ es) = pick (sameKey (keyOf e) k) (Port (e .port)) (portAt k es)
+portAt k (e ∷ es) = pick (sameKey (entryKey e) k) (Port (e .port)) (portAt k es)
 
 -- the port of a rule's key once it is applied
 abbrev pub portAfter : Action → Found
@@ -42,23 +42,23 @@ portAfter (Set port) = Port port
 pub no-port : (k : Key) (es : List Entry) → hasEntry k es ≡ false → portAt k es ≡ Nothing
 unfolding among portAt
 no-port k [] h = refl
-no-port k (e ∷ es) h = let t = or-none (sameKey (keyOf e) k) _ h in rw (t .0) (no-port k es (t .1))
+no-port k (e ∷ es) h = let t = or-none (sameKey (entryKey e) k) _ h in rw (t .0) (no-port k es (t .1))
 
 pub port-entry : (k : Key) (es : List Entry) {port : ℕ} → portAt k es ≡ Port port → Placed k es
 port-entry k es h =
     has-entry k es (by-bool (hasEntry k es) (λ e. e) (λ n. absurd (some-port (sym h ∙ no-port k es n))))
 
 -- each entry's port is found by its key
-pub port-at : (es : List Entry) → Ordered es → Each (λ e. portAt (keyOf e) es ≡ Port (e .port)) es
+pub port-at : (es : List Entry) → Ordered es → Each (λ e. portAt (entryKey e) es ≡ Port (e .port)) es
 unfolding portAt
 port-at [] h i l = absurd (omega arith)
-port-at (e ∷ es) h zero l = rw (key-mine (keyOf e))
+port-at (e ∷ es) h zero l = rw (key-mine (entryKey e))
 port-at (e ∷ es) h (suc i) l =
     let t = parts e es h in
-    let none = none-first (keyOf e) es (t .rest) (t .next) in
-    by-bool (sameKey (keyOf e) (keyOf (entryAt es i)))
-    (λ s. let at : Placed (keyOf e) es = record { place = i; inside = omega arith; key = sym (key-sound _ _ s) } in
-    tf (entry-has (keyOf e) es at) none)
+    let none = none-first (entryKey e) es (t .rest) (t .next) in
+    by-bool (sameKey (entryKey e) (entryKey (entryAt es i)))
+    (λ s. let at : Placed (entryKey e) es = record { place = i; inside = omega arith; key = sym (key-sound _ _ s) } in
+    tf (entry-has (entryKey e) es at) none)
     (λ s. rw s (port-at es (t .rest) i (omega arith)))
 
 -- the order of two choices of which at most one is taken
@@ -80,12 +80,12 @@ acts-port : (a : Action) (j k : Key) {es fs : List Entry} → Acts a k es fs →
     → portAt j fs ≡ pick (sameKey k j) (portAfter a) (portAt j es)
 unfolding portAt
 acts-port a j k (past {e} {es} b s) h =
-    ap (λ (f : Found). pick (sameKey (keyOf e) j) (Port (e .port)) f) (acts-port a j k s (parts e es h .rest))
-    ∙ choices (sameKey (keyOf e) j) (sameKey k j) _ _ _
-    (λ p q. apart (keyOf e) k b (key-sound (keyOf e) j p ∙ sym (key-sound k j q)))
+    ap (λ (f : Found). pick (sameKey (entryKey e) j) (Port (e .port)) f) (acts-port a j k s (parts e es h .rest))
+    ∙ choices (sameKey (entryKey e) j) (sameKey k j) _ _ _
+    (λ p q. apart (entryKey e) k b (key-sound (entryKey e) j p ∙ sym (key-sound k j q)))
 acts-port a j k (over {e} {es} s) h =
     let none = none-first k es (parts e es h .rest) (first-after k e es s h) in
-    let same : sameKey (keyOf e) j ≡ sameKey k j = ap (λ (i : Key). sameKey i j) (key-sound (keyOf e) k s) in
+    let same : sameKey (entryKey e) j ≡ sameKey k j = ap (λ (i : Key). sameKey i j) (key-sound (entryKey e) k s) in
     fresh-port a j k es none ∙ by-bool (sameKey k j) (λ t. rw t) (λ t. rw (t, same ∙ t))
 acts-port a j k (own {es} b) h = fresh-port a j k es (none-first k es h b)
 
@@ -99,7 +99,7 @@ abbrev pub reaches : ℕ → Key → Bool
 reaches address k = prefixOk k && covers k address
 
 reach-parts : (address : ℕ) (k : Key) → reaches address k ≡ true
-    → (k .0 % sizeOf (k .1) ≡ 0) × (address / sizeOf (k .1) ≡ k .0 / sizeOf (k .1))
+    → (k .0 % blockSize (k .1) ≡ 0) × (address / blockSize (k .1) ≡ k .0 / blockSize (k .1))
 reach-parts address k c =
     let t = and-parts (prefixOk k) _ c in
     (eqb-true _ _ (and-parts (leb (k .1) 32) _ (t .0) .1), eqb-true _ _ (t .1))
@@ -109,7 +109,7 @@ pub cover-one : (address : ℕ) (j k : Key) → reaches address j ≡ true → r
 cover-one address j k cj ck e = λ i. (one i, e i)
   where
     size : ℕ
-    size = sizeOf (j .1)
+    size = blockSize (j .1)
 
     one : j .0 ≡ k .0
     one =
@@ -170,7 +170,7 @@ answers-same e (answered w) =
 module _ (address : ℕ) (es : List Entry) where
   -- an entry whose key covers the address covers it
   placed-covers : (k : Key) (e : Placed k es) → reaches address k ≡ true
-      → covers (keyOf (entryAt es (e .place))) address ≡ true
+      → covers (entryKey (entryAt es (e .place))) address ≡ true
   placed-covers k e c = ap (λ (j : Key). covers j address) (e .key) ∙ and-parts (prefixOk k) _ c .1
 
   uncovered-port : Uncovered address es → (k : Key) → reaches address k ≡ true → portAt k es ≡ Nothing
@@ -184,19 +184,19 @@ module _ (address : ℕ) (es : List Entry) where
       omega (arith, l (e .place) (e .inside) (placed-covers k e c), ap (λ (j : Key). j .1) (e .key))
 
   module _ (h : Ordered es) where
-    pub entry-reaches : (i : ℕ) → i < length es → covers (keyOf (entryAt es i)) address ≡ true
-        → reaches address (keyOf (entryAt es i)) ≡ true
+    pub entry-reaches : (i : ℕ) → i < length es → covers (entryKey (entryAt es i)) address ≡ true
+        → reaches address (entryKey (entryAt es i)) ≡ true
     entry-reaches i inside c =
-        let k = keyOf (entryAt es i) in
+        let k = entryKey (entryAt es i) in
         and-join (prefixOk k) _ (and-parts (prefixOk k) _ (entry-fit es h i inside) .0) c
 
     -- a covering entry answers where no covering entry is longer
-    entry-answers : (i : ℕ) → i < length es → covers (keyOf (entryAt es i)) address ≡ true
+    entry-answers : (i : ℕ) → i < length es → covers (entryKey (entryAt es i)) address ≡ true
         → NoLonger address (entryAt es i .length) es → (f : Found) → f ≡ Port (entryAt es i .port)
         → Answers address (λ k. portAt k es) f
     entry-answers i inside c l f found =
         answered (record {
-          key = keyOf (entryAt es i);
+          key = entryKey (entryAt es i);
           port = entryAt es i .port;
           reaching = entry-reaches i inside c;
           has = port-at es h i inside;
@@ -213,6 +213,6 @@ module _ (address : ℕ) (es : List Entry) where
         go {b} (covered w n) = entry-answers (w .place) (w .inside) (w .covering) (w .longest) (b .0) (w .port)
 
     -- a lookup finds the port of the covering entry that no covering entry is longer than
-    pub lookup-is : (i : ℕ) → i < length es → covers (keyOf (entryAt es i)) address ≡ true
+    pub lookup-is : (i : ℕ) → i < length es → covers (entryKey (entryAt es i)) address ≡ true
         → NoLonger address (entryAt es i .length) es → lookupOf address es ≡ Port (entryAt es i .port)
     lookup-is i inside c l = answers-one lookup-answers (entry-answers i inside c l _ refl)

@@ -12,19 +12,19 @@ use Rattle.flow.specs.declared.Entry.{Entry}
 abbrev pub Key : Type 0
 Key = ℕ × ℕ
 
-abbrev pub keyOf : Entry → Key
-keyOf e = (e .prefix, e .length)
+abbrev pub entryKey : Entry → Key
+entryKey e = (e .prefix, e .length)
 
 abbrev pub ruleKey : Rule → Key
 ruleKey r = (r .prefix, r .length)
 
 -- the number of addresses under a prefix of length l
-abbrev pub sizeOf : ℕ → ℕ
-sizeOf l = 2 ^ (32 - l)
+abbrev pub blockSize : ℕ → ℕ
+blockSize l = 2 ^ (32 - l)
 
 -- a length from 0 to 32, and prefix bits past the length are zero
 abbrev pub prefixOk : Key → Bool
-prefixOk k = leb (k .1) 32 && eqb (k .0 % sizeOf (k .1)) 0
+prefixOk k = leb (k .1) 32 && eqb (k .0 % blockSize (k .1)) 0
 
 -- a removal, or a port from 1
 abbrev pub portOk : Action → Bool

@@ -3,8 +3,9 @@ use mathlib.Core.Bool.{Bool, true, _&&_}
 use mathlib.Core.List.{List, [], _∷_}
 use lib.ListN.{length, take, drop}
 use lib.Dec.{ltb, leb, eqb}
+use Rattle.answer.specs.Limits.{mostEntries}
 use Rattle.lists.specs.Arrays.{pad, everyTail, onHead, every}
-use Rattle.flow.specs.Rules.{keyOf, prefixOk, before}
+use Rattle.flow.specs.Rules.{entryKey, prefixOk, before}
 use Rattle.flow.specs.declared.Entry.{Entry}
 use Rattle.flow.specs.declared.Table.{Table}
 
@@ -15,23 +16,23 @@ abbrev pub isEmpty : Entry → Bool
 isEmpty e = eqb (e .prefix) 0 && eqb (e .length) 0 && eqb (e .port) 0
 
 -- the entries in use
-abbrev pub meaning : Table → List Entry
-meaning t = take (t .count) (t .entries)
+abbrev pub entriesOf : Table → List Entry
+entriesOf t = take (t .count) (t .entries)
 
 -- the table with these entries, zero past them
 abbrev pub tableOf : List Entry → Table
-tableOf es = record { entries = pad 64 emptyEntry es; count = length es }
+tableOf es = record { entries = pad mostEntries emptyEntry es; count = length es }
 
 -- an entry that may stand in a table: well formed, its port above 0
 abbrev pub entryOk : Entry → Bool
-entryOk e = prefixOk (keyOf e) && ltb 0 (e .port)
+entryOk e = prefixOk (entryKey e) && ltb 0 (e .port)
 
 -- the first entry may stand in a table, and comes before the second
 abbrev pub headOk : List Entry → Bool
 headOk [] = true
-headOk (e ∷ es) = entryOk e && onHead (λ f. before (keyOf e) (keyOf f)) es
+headOk (e ∷ es) = entryOk e && onHead (λ f. before (entryKey e) (entryKey f)) es
 
--- at most 64 entries that may stand in a table, by rising prefix and length, none twice; unused places are zero
+-- no more entries than there is room for, which may stand in a table, by rising prefix and length, none twice; unused places are zero
 unfoldable pub tableOk : Table → Bool
 tableOk t =
-    leb (t .count) 64 && everyTail headOk (meaning t) && every isEmpty (drop (t .count) (t .entries))
+    leb (t .count) mostEntries && everyTail headOk (entriesOf t) && every isEmpty (drop (t .count) (t .entries))

@@ -3,10 +3,12 @@ ghost use mathlib.Core.Path.{_≡_};
 ghost use mathlib.Core.List.{_∷_, _++_};
 ghost use Prim.Native.Nat.{_+_, _≤_, _<_};
 ghost use lib.ListN.{length, take, drop};
-ghost use Rattle.flow.specs.Tables.{emptyEntry, meaning, tableOf};
+ghost use Rattle.answer.specs.Limits.{mostEntries};
+ghost use Rattle.flow.specs.Tables.{emptyEntry, entriesOf, tableOf};
 ghost use Rattle.flow.specs.Changes.{setEntry, dropEntry, applyRule, changed, hasEntry, roomFor};
-ghost use Rattle.flow.specs.Changes.{roomAnswer, applyTo, placeOf, presentAt};
-ghost use Rattle.lists.specs.Arrays.{put, del};
+ghost use Rattle.flow.specs.Changes.{roomAnswer, applyTo};
+ghost use Rattle.flow.specs.Places.{placeOf, presentAt};
+ghost use Rattle.lists.specs.Places.{put, del};
 use crate::Action;
 use crate::Applied;
 use crate::Entry;
@@ -17,10 +19,11 @@ use crate::rules::is_same;
 use crate::rules::well_formed;
 use crate::tables::table_ok;
 use crate::tables::used;
+use answer::limits;
 
 // The first place whose entry does not come before (p, l).
-fn place(es: [Entry; 64], count: usize, p: u32, l: u8) -> usize
-    requires { ⌜ count ≤ 64 ⌝ }
+fn place(es: [Entry; limits::ENTRIES], count: usize, p: u32, l: u8) -> usize
+    requires { ⌜ count ≤ mostEntries ⌝ }
     ensures { λ r. ⌜ r ≡ placeOf (p, l) (take count es) ⌝ }
 {
     let mut i: usize = 0;
@@ -36,8 +39,8 @@ fn place(es: [Entry; 64], count: usize, p: u32, l: u8) -> usize
 }
 
 // Whether the entry at a place is the one of (p, l).
-fn present(es: [Entry; 64], count: usize, at: usize, p: u32, l: u8) -> bool
-    requires { ⌜ count ≤ 64 ⌝ }
+fn present(es: [Entry; limits::ENTRIES], count: usize, at: usize, p: u32, l: u8) -> bool
+    requires { ⌜ count ≤ mostEntries ⌝ }
     ensures { λ r. ⌜ r ≡ presentAt at (p, l) (take count es) ⌝ }
 {
     if at < count {
@@ -49,8 +52,13 @@ fn present(es: [Entry; 64], count: usize, at: usize, p: u32, l: u8) -> bool
 }
 
 // The entries with e at a place, those from there on moved up by one.
-fn inserted(es: [Entry; 64], count: usize, at: usize, e: Entry) -> [Entry; 64]
-    requires { ⌜ (at ≤ count) × (count < 64) ⌝ }
+fn inserted(
+    es: [Entry; limits::ENTRIES],
+    count: usize,
+    at: usize,
+    e: Entry,
+) -> [Entry; limits::ENTRIES]
+    requires { ⌜ (at ≤ count) × (count < mostEntries) ⌝ }
     ensures { λ r. ⌜ r ≡ put at e (take count es) ++ drop (count + 1) es ⌝ }
 {
     let mut out = es;
@@ -65,8 +73,8 @@ fn inserted(es: [Entry; 64], count: usize, at: usize, e: Entry) -> [Entry; 64]
 }
 
 // The entries without the one at a place, those after it moved down by one.
-fn removed(es: [Entry; 64], count: usize, at: usize) -> [Entry; 64]
-    requires { ⌜ (at < count) × (count ≤ 64) ⌝ }
+fn removed(es: [Entry; limits::ENTRIES], count: usize, at: usize) -> [Entry; limits::ENTRIES]
+    requires { ⌜ (at < count) × (count ≤ mostEntries) ⌝ }
     ensures { λ r. ⌜ r ≡ del at (take count es) ++ emptyEntry ∷ drop count es ⌝ }
 {
     let mut out = es;
@@ -85,8 +93,8 @@ fn removed(es: [Entry; 64], count: usize, at: usize) -> [Entry; 64]
 }
 
 fn remove_entry(t: Table, p: u32, l: u8) -> Table
-    requires { ⌜ t ≡ tableOf (meaning t) ⌝ }
-    ensures { λ r. ⌜ r ≡ tableOf (dropEntry (p, l) (meaning t)) ⌝ }
+    requires { ⌜ t ≡ tableOf (entriesOf t) ⌝ }
+    ensures { λ r. ⌜ r ≡ tableOf (dropEntry (p, l) (entriesOf t)) ⌝ }
 {
     let es = t.entries;
     let count = t.count;
@@ -103,8 +111,8 @@ fn remove_entry(t: Table, p: u32, l: u8) -> Table
 }
 
 fn set_entry(t: Table, e: Entry) -> Table
-    requires { ⌜ (t ≡ tableOf (meaning t)) × (length (setEntry e (meaning t)) ≤ 64) ⌝ }
-    ensures { λ r. ⌜ r ≡ tableOf (setEntry e (meaning t)) ⌝ }
+    requires { ⌜ (t ≡ tableOf (entriesOf t)) × (length (setEntry e (entriesOf t)) ≤ mostEntries) ⌝ }
+    ensures { λ r. ⌜ r ≡ tableOf (setEntry e (entriesOf t)) ⌝ }
 {
     let es = t.entries;
     let count = t.count;
@@ -124,7 +132,7 @@ fn set_entry(t: Table, e: Entry) -> Table
 
 // The table after a rule for which it has room.
 fn change(t: Table, rule: Rule) -> Table
-    requires { ⌜ (t ≡ tableOf (meaning t)) × (length (applyRule rule (meaning t)) ≤ 64) ⌝ }
+    requires { ⌜ (t ≡ tableOf (entriesOf t)) × (length (applyRule rule (entriesOf t)) ≤ mostEntries) ⌝ }
     ensures { λ r. ⌜ r ≡ changed rule t ⌝ }
 {
     let action = rule.action;
@@ -142,8 +150,8 @@ fn change(t: Table, rule: Rule) -> Table
 }
 
 // Whether some entry is the one of (p, l).
-fn has_entry(es: [Entry; 64], count: usize, p: u32, l: u8) -> bool
-    requires { ⌜ count ≤ 64 ⌝ }
+fn has_entry(es: [Entry; limits::ENTRIES], count: usize, p: u32, l: u8) -> bool
+    requires { ⌜ count ≤ mostEntries ⌝ }
     ensures { λ r. ⌜ r ≡ hasEntry (p, l) (take count es) ⌝ }
 {
     let mut i: usize = 0;
@@ -158,14 +166,14 @@ fn has_entry(es: [Entry; 64], count: usize, p: u32, l: u8) -> bool
 }
 
 fn has_room(t: Table, rule: Rule) -> bool
-    ensures { λ r. ⌜ r ≡ roomFor rule (meaning t) ⌝ }
+    ensures { λ r. ⌜ r ≡ roomFor rule (entriesOf t) ⌝ }
 {
     let action = rule.action;
     match action {
         Action::Remove => true,
         Action::Set(_) => {
             let count = used(t);
-            if count < 64 {
+            if count < limits::ENTRIES {
                 true
             } else {
                 let es = t.entries;

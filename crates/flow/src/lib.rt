@@ -39,7 +39,7 @@ pub struct Entry {
 
 // A flow table: the first count entries are in use.
 pub struct Table {
-    pub entries: [Entry; 64],
+    pub entries: [Entry; answer::limits::ENTRIES],
     pub count: usize,
 }
 

@@ -1,13 +1,13 @@
 // Prefixes with lengths, and rules.
 ghost use mathlib.Core.Path.{_≡_};
-ghost use Rattle.flow.specs.Rules.{sizeOf, prefixOk, portOk, wellFormed, before, sameKey, sameAction, sameRule};
+ghost use Rattle.flow.specs.Rules.{blockSize, prefixOk, portOk, wellFormed, before, sameKey, sameAction, sameRule};
 ghost use Rattle.flow.specs.Rules.{portOf, actionOf, ruleOf, ruleEmpty};
 use crate::Action;
 use crate::Rule;
 
 // The number of addresses under a prefix of this length.
 pub(crate) fn size_of(length: u8) -> u64
-    ensures { λ r. ⌜ r ≡ sizeOf length ⌝ }
+    ensures { λ r. ⌜ r ≡ blockSize length ⌝ }
 {
     if length <= 32 {
         1u64 << (32 - length)

@@ -3,11 +3,13 @@ ghost use mathlib.Core.Path.{_≡_};
 ghost use Prim.Native.Nat.{_≤_};
 ghost use lib.ListN.{take};
 ghost use mathlib.Core.List.{[]};
-ghost use Rattle.flow.specs.Tables.{meaning, tableOf, entryOk, isEmpty, tableOk};
+ghost use Rattle.answer.specs.Limits.{mostEntries};
+ghost use Rattle.flow.specs.Tables.{entriesOf, tableOf, entryOk, isEmpty, tableOk};
 use crate::Entry;
 use crate::Table;
 use crate::rules::is_before;
 use crate::rules::prefix_ok;
+use answer::limits;
 
 // The table with no entries.
 pub fn empty_table() -> Table
@@ -18,16 +20,20 @@ pub fn empty_table() -> Table
             prefix: 0,
             length: 0,
             port: 0,
-        }; 64],
+        }; limits::ENTRIES],
         count: 0,
     }
 }
 
 // How many entries are in use: the count, or all of them.
 pub(crate) fn used(t: Table) -> usize
-    ensures { λ r. ⌜ (r ≤ 64) × (take r (t .entries) ≡ meaning t) ⌝ }
+    ensures { λ r. ⌜ (r ≤ mostEntries) × (take r (t .entries) ≡ entriesOf t) ⌝ }
 {
-    if t.count <= 64 { t.count } else { 64 }
+    if t.count <= limits::ENTRIES {
+        t.count
+    } else {
+        limits::ENTRIES
+    }
 }
 
 // Whether an entry may stand in a table.
@@ -57,7 +63,7 @@ pub fn table_ok(t: Table) -> bool
     ensures { λ r. ⌜ r ≡ tableOk t ⌝ }
 {
     let count = t.count;
-    if 64 < count {
+    if limits::ENTRIES < count {
         return false;
     }
     let mut i: usize = 0;
@@ -74,7 +80,7 @@ pub fn table_ok(t: Table) -> bool
             }
         }
     }
-    while i < 64 {
+    while i < limits::ENTRIES {
         let e = t.entries[i];
         if !is_empty(e) {
             return false;

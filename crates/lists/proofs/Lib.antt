@@ -8,4 +8,5 @@ pub mod Members
 pub mod Pigeonhole
 pub mod Rising
 pub mod Numbers
+pub mod Equal
 pub mod Runs

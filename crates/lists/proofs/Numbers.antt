@@ -14,7 +14,7 @@ use lib.ListN.{length, getD, take, drop, length-append, length-drop}
 use lib.Seq.{take-add, drop-drop, drop-cons, length-take-le, getD-drop}
 use borrow.Author.Tests.{ltb-true}
 use Rattle.answer.proofs.Bools.{and-parts}
-use Rattle.lists.specs.Arrays.{everyTail, every}
+use Rattle.lists.specs.Arrays.{every}
 use Rattle.lists.specs.Bytes.{be, num, field, AreBytes}
 
 pub pos : (k : ℕ) → 0 < 256 ^ k
@@ -131,7 +131,7 @@ field-one s at h = ap (λ (t : List ℕ). num (take 1 t)) (drop-cons s at 0 h) �
 
 -- bytes by a test of each; a part of bytes is bytes
 pub bytes-tested : (l : List ℕ) → every (λ b. ltb b 256) l ≡ true → AreBytes l
-unfolding everyTail
+unfolding every
 bytes-tested [] h i = omega arith
 bytes-tested (b ∷ l) h zero = ltb-true _ _ (and-parts (ltb b 256) (every (λ b. ltb b 256) l) h .0)
 bytes-tested (b ∷ l) h (suc i) = bytes-tested l (and-parts (ltb b 256) (every (λ b. ltb b 256) l) h .1) i

@@ -10,7 +10,7 @@ use lib.ListN.{length, getD}
 use borrow.Author.Tests.{ltb-true}
 use Rattle.answer.specs.Ask.{pick}
 use Rattle.answer.proofs.Bools.{by-bool, and-join, and-parts}
-use Rattle.lists.specs.Arrays.{everyTail, every}
+use Rattle.lists.specs.Arrays.{every}
 use Rattle.lists.specs.Counts.{count, passing}
 use Rattle.lists.specs.Rising.{risingFrom}
 use Rattle.lists.proofs.Counts.{count-few}
@@ -43,13 +43,13 @@ module _ {A : Type 0} (f : A → Bool) where
 
   -- they pass; and what every element passes, they pass
   pub passing-pass : (l : List A) → every f (passing f l) ≡ true
-  unfolding passing everyTail
+  unfolding passing every
   passing-pass [] = refl
   passing-pass (x ∷ l) =
       by-bool (f x) (λ e. rw e (and-join (f x) _ e (passing-pass l))) (λ e. rw e (passing-pass l))
 
   pub every-passing : (g : A → Bool) (l : List A) → every g l ≡ true → every g (passing f l) ≡ true
-  unfolding passing everyTail
+  unfolding passing every
   every-passing g [] h = refl
   every-passing g (x ∷ l) h =
       let t = and-parts (g x) (every g l) h in

@@ -11,7 +11,8 @@ use lib.ListN.{length, getD}
 use borrow.Author.Tests.{ltb-true, eqb-true, lt-ltb}
 use Rattle.answer.proofs.Bools.{tf, is-false, and-join, and-parts, by-or}
 use Rattle.lists.specs.Kinds.{among, different}
-use Rattle.lists.specs.Rising.{risingFrom, lastOf}
+use Rattle.lists.specs.Rising.{risingFrom}
+use Rattle.lists.specs.Places.{lastOf}
 
 pub rising-last : (last : ℕ) (ks : List ℕ) → risingFrom last ks ≡ true → last ≤ lastOf last ks
 unfolding risingFrom lastOf

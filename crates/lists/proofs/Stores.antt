@@ -8,7 +8,7 @@ use native.Mathlib.Nat.{le-of-suc-le-suc, le-of-lt, not-suc-le-zero}
 use native.Mathlib.Omega.{arith}
 use lib.ListN.{length, take, drop, getD, set, length-take, length-drop, drop-of-length-le, length-map}
 use lib.Seq.{drop-cons, take-suc, set-at, length-take-le, take-nil, getD-take, take-all, take-take}
-use Rattle.lists.specs.Arrays.{put, del}
+use Rattle.lists.specs.Places.{put, del}
 
 -- what owning a struct with an array of structs tells of the array's length
 pub length-mapped : (A B : Type 0) (f : A → B) (l : List A) (n : ℕ) → length (map f l) ≡ n → length l ≡ n

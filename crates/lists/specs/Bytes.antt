@@ -1,6 +1,8 @@
--- Numbers as bytes, the highest first (document 01, "Bytes"; FIPS 180-4, 3.1). Assumes nothing.
+-- Numbers as bytes, the highest first (document 01, "Bytes"; FIPS 180-4, 3.1), and byte strings compared.
 use Prim.Native.Nat.{ℕ, zero, suc, _+_, _*_, _/_, _%_, _^_, _<_}
+use mathlib.Core.Bool.{Bool, true, false, _&&_}
 use mathlib.Core.List.{List, [], _∷_}
+use lib.Dec.{eqb}
 use lib.ListN.{length, getD, take, drop}
 
 -- the low k bytes of a number
@@ -28,3 +30,10 @@ byteAt s i = getD s i 0
 -- every element is a byte
 abbrev pub AreBytes : List ℕ → Type 0
 AreBytes s = (i : ℕ) → getD s i 0 < 256
+
+-- whether two byte strings are the same
+unfoldable pub equal : List ℕ → List ℕ → Bool
+equal [] [] = true
+equal [] (y ∷ ys) = false
+equal (x ∷ xs) [] = false
+equal (x ∷ xs) (y ∷ ys) = eqb x y && equal xs ys

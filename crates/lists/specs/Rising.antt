@@ -8,8 +8,3 @@ use lib.Dec.{ltb}
 unfoldable pub risingFrom : ℕ → List ℕ → Bool
 risingFrom last [] = true
 risingFrom last (k ∷ ks) = ltb last k && risingFrom k ks
-
--- the last of some numbers, or the given one where there are none
-unfoldable pub lastOf : ℕ → List ℕ → ℕ
-lastOf last [] = last
-lastOf last (k ∷ ks) = lastOf k ks

@@ -1,10 +1,10 @@
 // Definitions and laws of lists: arrays with a count as lists, tests of every element, different members, and numbers
 // as bytes. The crates above cite specs/ in their contracts and proofs/ in their proofs. The only code reads bytes, makes
-// numbers of them and lends parts of them.
+// numbers of them, lends parts of them and compares them.
 ghost use mathlib.Core.Path.{_≡_};
 ghost use mathlib.Core.List.{[], _∷_};
 ghost use lib.ListN.{take, drop};
-ghost use Rattle.lists.specs.Bytes.{num, byteAt};
+ghost use Rattle.lists.specs.Bytes.{num, byteAt, equal};
 
 // The number of two bytes, the higher first.
 pub fn u16_of(a: u8, b: u8) -> u16
@@ -39,4 +39,21 @@ pub fn behind(s: &[u8], n: usize) -> &[u8]
     ensures { λ r. ⌜ now r ≡ drop n (now (s .entry)) ⌝ }
 {
     if n < s.len() { &s[n..] } else { &s[0..0] }
+}
+
+// Whether two byte strings are the same. It stops at the first difference: words are compared by it, and tags by `tag`.
+pub fn same(a: &[u8], b: &[u8]) -> bool
+    ensures { λ r. ⌜ r ≡ equal (now (a .entry)) (now (b .entry)) ⌝ }
+{
+    if a.len() != b.len() {
+        return false;
+    }
+    let mut i: usize = 0;
+    while i < a.len() {
+        if a[i] != b[i] {
+            return false;
+        }
+        i += 1;
+    }
+    true
 }

@@ -1,7 +1,7 @@
 -- What bytes are read as at each end: a switch reads a share or refuses, a controller an event or an acknowledgement or
 -- refuses, and a refusal has the number of the question that failed. Assumes nothing.
 use mathlib.Core.Path.{_≡_, refl, _∙_}
-use mathlib.Core.Bool.{Bool, true, false}
+use mathlib.Core.Bool.{Bool, true, false, _||_}
 use mathlib.Core.List.{List, [], _∷_}
 use mathlib.Core.Logic.{_⊎_, inl, inr}
 use Prim.Native.Nat.{ℕ, _≤_}
@@ -9,14 +9,17 @@ use native.Mathlib.Omega.{arith}
 use borrow.Author.Tests.{eq-eqb, ne-eqb}
 use lib.Dec.{eqb}
 use lib.ListN.{length}
-use Rattle.answer.specs.Ask.{reply}
-use Rattle.answer.proofs.Asked.{none-asked, refused, asked}
+use Rattle.answer.specs.Ask.{pick, reply}
+use Rattle.answer.proofs.Asked.{none-asked, refused, asked, reply-ap}
 use Rattle.answer.proofs.Bools.{by-eq}
 use Rattle.lists.specs.Bytes.{byteAt, field}
 use Rattle.flow.specs.declared.Rule.{Rule}
 use Rattle.message.specs.Layout.{eventKind, shareKind, acknowledgementKind, kindAt, numberAt}
 use Rattle.message.specs.Layout.{eventLength, shareLength, acknowledgementLength}
-use Rattle.message.specs.Reading.{eventOf, shareOf, acknowledgementOf, decode, numberOf}
+use Rattle.message.specs.Events.{eventOf}
+use Rattle.message.specs.Shares.{shareOf}
+use Rattle.message.specs.Acknowledgements.{acknowledgementOf}
+use Rattle.message.specs.Reading.{decode, messageSaid, numberOf}
 use Rattle.message.specs.declared.End.{End}
 use Rattle.message.specs.declared.End.the-variants.{Switch, Controller}
 use Rattle.message.specs.declared.Message.{Message}
@@ -144,3 +147,20 @@ by-read P Switch s h event share acknowledgement =
 by-read P Controller s h event share acknowledgement =
     by-controller s (λ l k e. rw e (event l k)) (λ l k e. rw e (acknowledgement l k))
     (λ k r e. let z = rw e at h in absurd (omega (arith, from-10 r)))
+
+-- document 01's number and values of what is read at a switch: the refusing question, or the fields of a share
+pub switch-said : (s : List ℕ) → messageSaid (decode Switch s)
+    ≡ reply ((10, eqb (length s) shareLength) ∷ (11, eqb (byteAt s kindAt) shareKind) ∷ []) (λ k. (k, []))
+    (messageSaid (shareOf s))
+unfolding decode
+switch-said s = reply-ap messageSaid _ Refused (shareOf s)
+
+-- and at a controller: the refusing question, or the fields of an event or an acknowledgement, by the length
+pub controller-said : (s : List ℕ) → messageSaid (decode Controller s)
+    ≡ reply
+    ((10, eqb (length s) eventLength || eqb (length s) acknowledgementLength)
+    ∷ (11, eqb (byteAt s kindAt) (pick (eqb (length s) eventLength) eventKind acknowledgementKind)) ∷ [])
+    (λ k. (k, []))
+    (messageSaid (pick (eqb (length s) eventLength) (eventOf s) (acknowledgementOf s)))
+unfolding decode
+controller-said s = reply-ap messageSaid _ Refused _

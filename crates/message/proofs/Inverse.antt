@@ -21,8 +21,12 @@ use Rattle.message.specs.Layout.{eventKind, shareKind, acknowledgementKi
 use Rattle.message.specs.Layout.{kindAt, senderAt, receiverAt, numberAt, causeAt, prefixAt, lengthAt, portAt}
 use Rattle.message.specs.Layout.{eventBody, shareBody, acknowledgementBody}
 use Rattle.message.specs.Layout.{eventLength, shareLength, acknowledgementLength}
-use Rattle.message.specs.Reading.{eventOf, shareOf, acknowledgementOf, decode, numberOf, isSealed}
-use Rattle.message.specs.Writing.{bodyOf, sealed, encode, isMessage, portSaid, InRange, endOf}
+use Rattle.message.specs.Events.{eventOf}
+use Rattle.message.specs.Shares.{shareOf}
+use Rattle.message.specs.Acknowledgements.{acknowledgementOf}
+use Rattle.message.specs.Reading.{decode, numberOf, isSealed}
+use Rattle.message.specs.Writing.{bodyOf, sealed, encode, isMessage, portSaid}
+use Rattle.message.specs.Ranges.{InRange, endOf}
 use Rattle.message.specs.declared.End.{End}
 use Rattle.message.specs.declared.Message.{Message}
 use Rattle.message.specs.declared.Message.the-variants.{Event, Share, Acknowledgement, Refused}

@@ -1,6 +1,6 @@
 -- What writing a message does to a frame: where it is answered 0 the bytes at the offset are the message's, are read as
 -- it, and every other byte of the frame is as it was; where it is refused the whole frame is. Assumes nothing.
-use mathlib.Core.Path.{_≡_, refl, ap, _∙_}
+use mathlib.Core.Path.{_≡_, refl, sym, ap, _∙_, subst}
 use mathlib.Core.Bool.{true, false}
 use mathlib.Core.List.{List, [], _∷_, _++_, append-assoc}
 use Prim.Native.Nat.{ℕ, _+_, _≤_, _<_}
@@ -10,10 +10,13 @@ use lib.ListN.{length, take, drop, length-append, length-drop}
 use lib.Seq.{take-at, drop-at, length-take-le}
 use Rattle.answer.specs.Ask.{Question, firstNo}
 use Rattle.answer.proofs.Asked.{none-asked, refused, asked, by-reply, answered}
-use Rattle.message.specs.Reading.{decode, isSealed}
-use Rattle.message.specs.Writing.{encode, lengthOf, isMessage, portSaid, roomAt, placed, writeTo, InRange, endOf}
+use Rattle.lists.specs.Bytes.{AreBytes}
+use Rattle.message.specs.Reading.{decode, numberOf, isSealed}
+use Rattle.message.specs.Writing.{encode, lengthOf, isMessage, portSaid, roomAt, placed, writeTo}
+use Rattle.message.specs.Ranges.{InRange, endOf}
+use Rattle.message.specs.declared.End.{End}
 use Rattle.message.specs.declared.Message.{Message}
-use Rattle.message.proofs.Inverse.{decode-encode, encode-sealed}
+use Rattle.message.proofs.Inverse.{decode-encode, encode-decode, encode-sealed, decode-message}
 use Rattle.message.proofs.Lengths.{encode-length}
 
 -- a reply beside the frame that it comes with
@@ -48,19 +51,19 @@ pub record Sent (key : List ℕ) (m : Message) (frame : List ℕ) (at : ℕ) (af
 
 module _ (key : List ℕ) (m : Message) (frame : List ℕ) (at : ℕ) where
   -- the answers, by the first question whose answer is no
-  pub nothing-written : isMessage m ≡ false → writeTo key m frame at ≡ (26, frame)
-  nothing-written n = refused _ _ 26 _ _ n
+  pub malformed-written : portSaid m ≡ false → writeTo key m frame at ≡ (15, frame)
+  malformed-written n = refused _ _ 15 _ _ n
 
-  pub malformed-written : isMessage m ≡ true → portSaid m ≡ false → writeTo key m frame at ≡ (15, frame)
-  malformed-written y n = asked _ _ 26 _ _ y ∙ refused _ _ 15 _ _ n
+  pub too-long-written : portSaid m ≡ true → length frame < at + lengthOf m → writeTo key m frame at ≡ (25, frame)
+  too-long-written p n = asked _ _ 15 _ _ p ∙ refused _ _ 25 _ _ (lt-leb _ _ n)
 
-  pub too-long-written : isMessage m ≡ true → portSaid m ≡ true → length frame < at + lengthOf m
-      → writeTo key m frame at ≡ (25, frame)
-  too-long-written y p n = asked _ _ 26 _ _ y ∙ asked _ _ 15 _ _ p ∙ refused _ _ 25 _ _ (lt-leb _ _ n)
+  pub nothing-written : portSaid m ≡ true → at + lengthOf m ≤ length frame → isMessage m ≡ false
+      → writeTo key m frame at ≡ (26, frame)
+  nothing-written p r n = asked _ _ 15 _ _ p ∙ asked _ _ 25 _ _ (le-leb _ _ r) ∙ refused _ _ 26 _ _ n
 
   pub all-written : isMessage m ≡ true → portSaid m ≡ true → at + lengthOf m ≤ length frame
       → writeTo key m frame at ≡ (0, placed (encode key m) frame at)
-  all-written y p r = asked _ _ 26 _ _ y ∙ asked _ _ 15 _ _ p ∙ asked _ _ 25 _ _ (le-leb _ _ r) ∙ none-asked _ _
+  all-written y p r = asked _ _ 15 _ _ p ∙ asked _ _ 25 _ _ (le-leb _ _ r) ∙ asked _ _ 26 _ _ y ∙ none-asked _ _
 
   fits : at + lengthOf m ≤ length frame → at + length (encode key m) ≤ length frame
   fits h = omega (arith, encode-length key m)
@@ -68,7 +71,16 @@ module _ (key : List ℕ) (m : Message) (frame : List ℕ) (at : ℕ) where
   -- the frame with the message has its bytes at the offset
   pub placed-message : at + lengthOf m ≤ length frame
       → take (lengthOf m) (drop at (placed (encode key m) frame at)) ≡ encode key m
-  placed-message room = rw (← encode-length key m) (placed-there (encode key m) frame at (fits room))
+  placed-message room =
+      ap (λ (n : ℕ). take n (drop at (placed (encode key m) frame at))) (sym (encode-length key m))
+      ∙ placed-there (encode key m) frame at (fits room)
+
+  -- and the frame's own bytes behind it
+  placed-behind : at + lengthOf m ≤ length frame
+      → drop (at + lengthOf m) (placed (encode key m) frame at) ≡ drop (at + lengthOf m) frame
+  placed-behind room =
+      subst (λ (n : ℕ). drop (at + n) (placed (encode key m) frame at) ≡ drop (at + n) frame) (encode-length key m)
+      (placed-after (encode key m) frame at (fits room))
 
   -- a message that was written, or a refusal
   pub by-written : {C : Type 0}
@@ -77,7 +89,7 @@ module _ (key : List ℕ) (m : Message) (frame : List ℕ) (at : ℕ) where
       → ((k : ℕ) → 0 < k → writeTo key m frame at ≡ (k, frame) → C) → C
   by-written done refusal =
       let qs : List Question =
-      (26, isMessage m) ∷ (15, portSaid m) ∷ (25, roomAt (length frame) at (lengthOf m)) ∷ [] in
+      (15, portSaid m) ∷ (25, roomAt (length frame) at (lengthOf m)) ∷ (26, isMessage m) ∷ [] in
       by-reply 1 qs _ _ refl (λ h e. refusal (firstNo qs) h e)
       (λ pass e. let yes = answered qs refl pass in done (yes 26) (yes 15) (leb-true _ _ (yes 25)) e)
 
@@ -115,7 +127,7 @@ module _ (key : List ℕ) (m : Message) (frame : List ℕ) (at : ℕ) where
         sealed = rw there (encode-sealed key m y);
         long = placed-length w frame at (fits room);
         before = placed-before w frame at (fits room);
-        behind = rw (← encode-length key m) (placed-after w frame at (fits room));
+        behind = placed-behind room;
       }
 
   -- whether it was written or refused
@@ -126,6 +138,16 @@ module _ (key : List ℕ) (m : Message) (frame : List ℕ) (at : ℕ) where
   written-before = by-written (λ y p r e. rw e (placed-before (encode key m) frame at (fits r))) (λ k n e. rw e)
 
   pub written-after : drop (at + lengthOf m) (writeTo key m frame at .1) ≡ drop (at + lengthOf m) frame
-  written-after =
-      by-written (λ y p r e. rw (e, ← encode-length key m) (placed-after (encode key m) frame at (fits r)))
-      (λ k n e. rw e)
+  written-after = by-written (λ y p r e. rw e (placed-behind r)) (λ k n e. rw e)
+
+-- bytes that pass questions 10, 11 and 14 and fit at an offset are written there again by the writing call itself
+pub written-back : (end : End) (key s frame : List ℕ) (at : ℕ) → AreBytes s → numberOf (decode end s) ≡ 0
+    → isSealed key s ≡ true → at + length s ≤ length frame
+    → writeTo key (decode end s) frame at ≡ (0, placed s frame at)
+written-back end key s frame at b h t room =
+    let m = decode end s in
+    let again = encode-decode end key s b h t in
+    let long : lengthOf m ≡ length s = sym (encode-length key m) ∙ ap length again in
+    let can = decode-message end s h in
+    all-written key m frame at (can .0) (can .1) (rw long room)
+    ∙ ap (λ (w : List ℕ). (0, placed w frame at)) again

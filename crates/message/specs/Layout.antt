@@ -27,26 +27,26 @@ numberAt = 3
 
 -- then in an event its cause, in a share its rule
 abbrev pub causeAt : ℕ
-causeAt = 7
+causeAt = numberAt + 4
 
 abbrev pub prefixAt : ℕ
-prefixAt = 7
+prefixAt = numberAt + 4
 
 abbrev pub lengthAt : ℕ
-lengthAt = 11
+lengthAt = prefixAt + 4
 
 abbrev pub portAt : ℕ
-portAt = 12
+portAt = lengthAt + 1
 
 -- the bytes before the tag
 abbrev pub eventBody : ℕ
-eventBody = 8
+eventBody = causeAt + 1
 
 abbrev pub shareBody : ℕ
-shareBody = 14
+shareBody = portAt + 2
 
 abbrev pub acknowledgementBody : ℕ
-acknowledgementBody = 7
+acknowledgementBody = numberAt + 4
 
 -- all bytes, the tag among them
 abbrev pub eventLength : ℕ

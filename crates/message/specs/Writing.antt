@@ -1,40 +1,28 @@
--- The bytes of a message, and a frame with a message written at an offset (document 01, "Bytes" and question 25).
--- Assumes nothing.
-use Prim.Native.Nat.{ℕ, _+_, _^_, _<_}
-use mathlib.Core.Bool.{Bool, true, false}
+-- The bytes of a message, and a frame with a message written at an offset (document 01, "Bytes" and questions 15, 25
+-- and 26).
+use Prim.Native.Nat.{ℕ, _+_}
+use mathlib.Core.Bool.{Bool, true}
 use mathlib.Core.List.{List, [], _∷_, _++_}
 use lib.ListN.{length, take, drop}
-use lib.Dec.{leb}
-use Rattle.answer.specs.Ask.{reply}
-use Rattle.lists.specs.Bytes.{be}
-use Rattle.flow.specs.Rules.{portOk, portOf}
+use lib.Dec.{ltb, leb}
+use Rattle.answer.specs.Ask.{pick, reply}
+use Rattle.flow.specs.Rules.{portOk}
 use Rattle.tag.specs.Tags.{tagOf}
-use Rattle.message.specs.Layout.{eventKind, shareKind, acknowledgementKind}
 use Rattle.message.specs.Layout.{eventLength, shareLength, acknowledgementLength}
-use Rattle.message.specs.declared.End.{End}
-use Rattle.message.specs.declared.End.the-variants.{Switch, Controller}
+use Rattle.message.specs.Events.{eventBytes}
+use Rattle.message.specs.Shares.{shareBytes}
+use Rattle.message.specs.Acknowledgements.{acknowledgementBytes}
 use Rattle.message.specs.declared.Message.{Message}
 use Rattle.message.specs.declared.Message.the-variants.{Event, Share, Acknowledgement, Refused}
 
 -- the bytes before the tag, kind by kind
 abbrev pub bodyOf : Message → List ℕ
-bodyOf (Event s c n x) = eventKind ∷ s ∷ c ∷ be 4 n ++ x ∷ []
-bodyOf (Share c s n r) = shareKind ∷ c ∷ s ∷ be 4 n ++ be 4 (r .prefix) ++ r .length ∷ be 2 (portOf (r .action))
-bodyOf (Acknowledgement s c n) = acknowledgementKind ∷ s ∷ c ∷ be 4 n
+bodyOf (Event s c n x) = eventBytes s c n x
+bodyOf (Share c s n r) = shareBytes c s n r
+bodyOf (Acknowledgement s c n) = acknowledgementBytes s c n
 bodyOf (Refused k) = []
 
--- bytes and then their tag
-abbrev pub sealed : List ℕ → List ℕ → List ℕ
-sealed key b = b ++ tagOf key b
-
--- all bytes of a message; a refusal has none
-abbrev pub encode : List ℕ → Message → List ℕ
-encode key (Event s c n x) = sealed key (bodyOf (Event s c n x))
-encode key (Share c s n r) = sealed key (bodyOf (Share c s n r))
-encode key (Acknowledgement s c n) = sealed key (bodyOf (Acknowledgement s c n))
-encode key (Refused k) = []
-
--- how many they are
+-- how many bytes a message has, its tag among them; a refusal has none
 abbrev pub lengthOf : Message → ℕ
 lengthOf (Event s c n x) = eventLength
 lengthOf (Share c s n r) = shareLength
@@ -43,10 +31,15 @@ lengthOf (Refused k) = 0
 
 -- a message, and no refusal
 abbrev pub isMessage : Message → Bool
-isMessage (Event s c n x) = true
-isMessage (Share c s n r) = true
-isMessage (Acknowledgement s c n) = true
-isMessage (Refused k) = false
+isMessage m = ltb 0 (lengthOf m)
+
+-- bytes and then their tag
+abbrev pub sealed : List ℕ → List ℕ → List ℕ
+sealed key b = b ++ tagOf key b
+
+-- all bytes of a message
+abbrev pub encode : List ℕ → Message → List ℕ
+encode key m = pick (isMessage m) (sealed key (bodyOf m)) []
 
 -- no rule in it sets port 0, which no bytes say
 abbrev pub portSaid : Message → Bool
@@ -66,20 +59,6 @@ placed w frame at = take at frame ++ w ++ drop (at + length w) frame
 -- writing at an offset: the answer, and the frame afterwards; a refused writing leaves it as it was
 abbrev pub writeTo : List ℕ → Message → List ℕ → ℕ → ℕ × List ℕ
 writeTo key m frame at =
-    reply ((26, isMessage m) ∷ (15, portSaid m) ∷ (25, roomAt (length frame) at (lengthOf m)) ∷ [])
+    reply ((15, portSaid m) ∷ (25, roomAt (length frame) at (lengthOf m)) ∷ (26, isMessage m) ∷ [])
     (λ k. (k, frame))
     (0, placed (encode key m) frame at)
-
--- numbers of several bytes fit their fields, as the types of the code say
-abbrev pub InRange : Message → Type 0
-InRange (Event s c n x) = n < 256 ^ 4
-InRange (Share c s n r) = (n < 256 ^ 4) × (r .prefix < 256 ^ 4) × (portOf (r .action) < 256 ^ 2)
-InRange (Acknowledgement s c n) = n < 256 ^ 4
-InRange (Refused k) = ⊥
-
--- the end that a message is for
-abbrev pub endOf : Message → End
-endOf (Event s c n x) = Controller
-endOf (Share c s n r) = Switch
-endOf (Acknowledgement s c n) = Controller
-endOf (Refused k) = Controller

@@ -17,20 +17,20 @@ pub const RECEIVER_AT: usize = 2;
 pub const NUMBER_AT: usize = 3;
 
 // Then in an event its cause, in a share its rule.
-pub const CAUSE_AT: usize = 7;
+pub const CAUSE_AT: usize = NUMBER_AT + 4;
 
-pub const PREFIX_AT: usize = 7;
+pub const PREFIX_AT: usize = NUMBER_AT + 4;
 
-pub const LENGTH_AT: usize = 11;
+pub const LENGTH_AT: usize = PREFIX_AT + 4;
 
-pub const PORT_AT: usize = 12;
+pub const PORT_AT: usize = LENGTH_AT + 1;
 
 // The bytes before the tag.
-pub const EVENT_BODY: usize = 8;
+pub const EVENT_BODY: usize = CAUSE_AT + 1;
 
-pub const SHARE_BODY: usize = 14;
+pub const SHARE_BODY: usize = PORT_AT + 2;
 
-pub const ACKNOWLEDGEMENT_BODY: usize = 7;
+pub const ACKNOWLEDGEMENT_BODY: usize = NUMBER_AT + 4;
 
 // All bytes, the tag among them.
 pub const EVENT_LENGTH: usize = EVENT_BODY + tag::LENGTH;

@@ -2,11 +2,14 @@
 // tags checked, and their senders asked. Every function takes every byte string, every offset and every message.
 use flow::Rule;
 
+mod acknowledgements;
+mod events;
 mod fields;
 pub mod keys;
 pub mod layout;
 mod reading;
 mod senders;
+mod shares;
 mod writing;
 
 pub use reading::is_sealed;

@@ -1,52 +1,13 @@
 // Bytes read as a message at an end, and the check of their tag.
 ghost use mathlib.Core.Path.{_≡_};
-ghost use lib.ListN.{length};
-ghost use Rattle.message.specs.Layout.{eventLength, shareLength, acknowledgementLength};
-ghost use Rattle.message.specs.Reading.{eventOf, shareOf, acknowledgementOf, decode, numberOf, isSealed};
+ghost use Rattle.message.specs.Reading.{decode, messageSaid, isSealed};
 ghost use Rattle.message.specs.declared.End.the-variants as ends;
 use crate::End;
 use crate::Message;
-use crate::fields::u16_at;
-use crate::fields::u32_at;
+use crate::acknowledgements::read_acknowledgement;
+use crate::events::read_event;
 use crate::layout;
-
-fn read_event(s: &[u8]) -> Message
-    requires { ⌜ length (now s) ≡ eventLength ⌝ }
-    ensures { λ r. ⌜ r ≡ eventOf (now (s .entry)) ⌝ }
-{
-    Message::Event {
-        switch: s[layout::SENDER_AT],
-        controller: s[layout::RECEIVER_AT],
-        serial: u32_at(s, layout::NUMBER_AT),
-        cause: s[layout::CAUSE_AT],
-    }
-}
-
-fn read_share(s: &[u8]) -> Message
-    requires { ⌜ length (now s) ≡ shareLength ⌝ }
-    ensures { λ r. ⌜ r ≡ shareOf (now (s .entry)) ⌝ }
-{
-    let prefix = u32_at(s, layout::PREFIX_AT);
-    let port = u16_at(s, layout::PORT_AT);
-    let rule = flow::rule_of(prefix, s[layout::LENGTH_AT], port);
-    Message::Share {
-        controller: s[layout::SENDER_AT],
-        switch: s[layout::RECEIVER_AT],
-        number: u32_at(s, layout::NUMBER_AT),
-        rule: rule,
-    }
-}
-
-fn read_acknowledgement(s: &[u8]) -> Message
-    requires { ⌜ length (now s) ≡ acknowledgementLength ⌝ }
-    ensures { λ r. ⌜ r ≡ acknowledgementOf (now (s .entry)) ⌝ }
-{
-    Message::Acknowledgement {
-        switch: s[layout::SENDER_AT],
-        controller: s[layout::RECEIVER_AT],
-        number: u32_at(s, layout::NUMBER_AT),
-    }
-}
+use crate::shares::read_share;
 
 // A switch expects shares.
 fn read_at_switch(s: &[u8]) -> Message
@@ -92,7 +53,7 @@ pub fn read(end: End, s: &[u8]) -> Message
 
 // The number of a refusal, and 0 of a message.
 pub fn number(m: Message) -> u8
-    ensures { λ r. ⌜ r ≡ numberOf m ⌝ }
+    ensures { λ r. ⌜ r ≡ messageSaid m .0 ⌝ }
 {
     match m {
         Message::Event {

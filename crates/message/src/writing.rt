@@ -3,55 +3,13 @@ ghost use mathlib.Core.Path.{_≡_};
 ghost use Prim.Native.Nat.{_≤_};
 ghost use lib.ListN.{length};
 ghost use lib.Seq.{sets};
-ghost use Rattle.message.specs.Layout.{eventBody, shareBody, acknowledgementBody};
-ghost use Rattle.message.specs.Writing.{bodyOf, encode, lengthOf, isMessage, portSaid, roomAt, writeTo};
-ghost use Rattle.message.specs.declared.Message.the-variants as kinds;
+ghost use Rattle.message.specs.Writing.{encode, lengthOf, portSaid, roomAt, writeTo};
 use crate::Message;
-use crate::fields::put_u8;
-use crate::fields::put_u16;
-use crate::fields::put_u32;
+use crate::acknowledgements::put_acknowledgement;
+use crate::events::put_event;
 use crate::fields::seal;
 use crate::layout;
-use flow::Rule;
-
-fn put_event(part: &mut [u8], switch: u8, controller: u8, serial: u32, cause: u8)
-    requires { ⌜ eventBody ≤ length (now part) ⌝ }
-    ensures { λ _. ⌜ now (part .exit)
-        ≡ sets (now (part .entry)) 0 (bodyOf (kinds.Event switch controller serial cause)) ⌝ }
-{
-    put_u8(part, layout::KIND_AT, layout::EVENT);
-    put_u8(part, layout::SENDER_AT, switch);
-    put_u8(part, layout::RECEIVER_AT, controller);
-    put_u32(part, layout::NUMBER_AT, serial);
-    put_u8(part, layout::CAUSE_AT, cause);
-}
-
-fn put_share(part: &mut [u8], controller: u8, switch: u8, number: u32, rule: Rule)
-    requires { ⌜ shareBody ≤ length (now part) ⌝ }
-    ensures { λ _. ⌜ now (part .exit)
-        ≡ sets (now (part .entry)) 0 (bodyOf (kinds.Share controller switch number rule)) ⌝ }
-{
-    let action = rule.action;
-    let port = flow::port_of(action);
-    put_u8(part, layout::KIND_AT, layout::SHARE);
-    put_u8(part, layout::SENDER_AT, controller);
-    put_u8(part, layout::RECEIVER_AT, switch);
-    put_u32(part, layout::NUMBER_AT, number);
-    put_u32(part, layout::PREFIX_AT, rule.prefix);
-    put_u8(part, layout::LENGTH_AT, rule.length);
-    put_u16(part, layout::PORT_AT, port);
-}
-
-fn put_acknowledgement(part: &mut [u8], switch: u8, controller: u8, number: u32)
-    requires { ⌜ acknowledgementBody ≤ length (now part) ⌝ }
-    ensures { λ _. ⌜ now (part .exit)
-        ≡ sets (now (part .entry)) 0 (bodyOf (kinds.Acknowledgement switch controller number)) ⌝ }
-{
-    put_u8(part, layout::KIND_AT, layout::ACKNOWLEDGEMENT);
-    put_u8(part, layout::SENDER_AT, switch);
-    put_u8(part, layout::RECEIVER_AT, controller);
-    put_u32(part, layout::NUMBER_AT, number);
-}
+use crate::shares::put_share;
 
 // The message from the start of a part of a frame; nothing for a refusal.
 fn put(part: &mut [u8], m: Message, key: &[u8])
@@ -115,31 +73,6 @@ pub fn length_of(m: Message) -> usize
     }
 }
 
-fn is_message(m: Message) -> bool
-    ensures { λ r. ⌜ r ≡ isMessage m ⌝ }
-{
-    match m {
-        Message::Event {
-            switch: _,
-            controller: _,
-            serial: _,
-            cause: _,
-        } => true,
-        Message::Share {
-            controller: _,
-            switch: _,
-            number: _,
-            rule: _,
-        } => true,
-        Message::Acknowledgement {
-            switch: _,
-            controller: _,
-            number: _,
-        } => true,
-        Message::Refused(_) => false,
-    }
-}
-
 // Whether bytes can say the message: none say a rule that sets port 0.
 fn port_said(m: Message) -> bool
     ensures { λ r. ⌜ r ≡ portSaid m ⌝ }
@@ -180,18 +113,19 @@ pub fn fits(frame: usize, at: usize, n: usize) -> bool
     }
 }
 
-// A message written at an offset of a frame, after questions 26, 15 and 25. A refusal is nothing to send.
+// A message written at an offset of a frame, after questions 15, 25 and 26. A refusal is nothing to send.
 pub fn write(m: Message, key: &[u8], frame: &mut [u8], at: usize) -> u8
     ensures { λ r. ⌜ (r, now (frame .exit)) ≡ writeTo (now (key .entry)) m (now (frame .entry)) at ⌝ }
 {
-    if !is_message(m) {
-        return answer::NOTHING_TO_SEND;
-    }
     if !port_said(m) {
         return answer::MALFORMED_RULE;
     }
-    if !fits(frame.len(), at, length_of(m)) {
+    let n = length_of(m);
+    if !fits(frame.len(), at, n) {
         return answer::DOES_NOT_FIT;
+    }
+    if n == 0 {
+        return answer::NOTHING_TO_SEND;
     }
     put(&mut frame[at..], m, key);
     answer::DONE

@@ -1,3 +1,5 @@
--- Laws of the notation's tables.
+-- Laws of the notation's tables, names and pairs.
 pub mod Places
-pub mod Sizes
+pub mod Fits
+pub mod Naming
+pub mod Givers

@@ -1,8 +1,10 @@
 // The fields of each kind of record and of a share, in their order, and how many bytes each has.
-// The same table as specs/Fields.antt.
+// The same tables as specs/Kinds.antt and specs/Fields.antt.
 ghost use mathlib.Core.Path.{_≡_};
 ghost use mathlib.Core.List.{[], _∷_};
-ghost use Rattle.notation.specs.Fields.{fieldAt, fieldOf, widthOf};
+ghost use lib.ListN.{length};
+ghost use Rattle.notation.specs.Fields.{fieldAt, widthOf};
+ghost use Rattle.notation.specs.Kinds.{fieldsOf, fieldOf};
 use crate::Field;
 use crate::kinds;
 use message::layout;
@@ -48,6 +50,7 @@ pub fn field_of(kind: u8, i: u8) -> Field
     match kind {
         kinds::PLAN => of_two(i, Field::Switch, Field::Cause),
         kinds::CHANGE => of_three(i, Field::Flow, Field::Switch, Field::Rule),
+        kinds::END => Field::Nothing,
         kinds::DECIDE => of_four(
             i,
             Field::Controller,
@@ -69,6 +72,25 @@ pub fn field_of(kind: u8, i: u8) -> Field
             Field::Tag,
         ),
         _ => Field::Nothing,
+    }
+}
+
+// How many fields follow the kind of a record or of a share.
+pub fn count_of(kind: u8) -> u8
+    ensures { λ r. ⌜ r ≡ length (fieldsOf kind) ⌝ }
+{
+    match kind {
+        kinds::PLAN => 2,
+        kinds::CHANGE => 3,
+        kinds::END => 0,
+        kinds::DECIDE => 4,
+        kinds::SEND => 2,
+        kinds::REPORT => 2,
+        kinds::RAW => 2,
+        kinds::KEEP => 3,
+        kinds::DELIVER => 1,
+        layout::SHARE => 5,
+        _ => 0,
     }
 }
 

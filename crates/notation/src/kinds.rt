@@ -1,7 +1,7 @@
 // The kinds of records (document 01, "Bytes" and "Rehearsal program") and how many bytes each has.
 // The same numbers as specs/Kinds.antt.
 ghost use mathlib.Core.Path.{_≡_};
-ghost use Rattle.notation.specs.Kinds.{sizeOf};
+ghost use Rattle.notation.specs.Kinds.{recordSize};
 use crate::MESSAGE_AT;
 
 pub const PLAN: u8 = 0x11;
@@ -22,9 +22,14 @@ pub const KEEP: u8 = 0x25;
 
 pub const DELIVER: u8 = 0x26;
 
+// All of them, in the order of specs/Kinds.antt.
+pub(crate) const COUNT: usize = 9;
+
+pub(crate) const ALL: [u8; COUNT] = [PLAN, CHANGE, END, DECIDE, SEND, REPORT, RAW, KEEP, DELIVER];
+
 // The bytes of a record, its kind among them; 0 where no record has this kind.
 pub fn size_of(kind: u8) -> usize
-    ensures { λ r. ⌜ r ≡ sizeOf kind ⌝ }
+    ensures { λ r. ⌜ r ≡ recordSize kind ⌝ }
 {
     match kind {
         PLAN => 3,

@@ -1,11 +1,12 @@
 // The changes that were made in a rehearsal: the columns of the first ones, and how many there are.
 ghost use Prim.Native.Nat.{_≤_, _<_};
+ghost use Rattle.rehearsal.specs.Limits.{mostLines};
 use crate::listed::say_line;
 use crate::listed::say_line_end;
 use prose::say;
 use prose::say_number;
-use story::STEPS;
-use story::Step;
+use rehearsal::DEEDS;
+use rehearsal::Deed;
 
 // So many are listed.
 const LISTED: usize = 24;
@@ -17,7 +18,7 @@ pub(crate) struct Changes {
 
 // There are no more than steps.
 fn one_more(count: usize) -> usize {
-    if count < STEPS { count + 1 } else { count }
+    if count < DEEDS { count + 1 } else { count }
 }
 
 fn with_column(changes: Changes, column: usize) -> Changes {
@@ -32,23 +33,23 @@ fn with_column(changes: Changes, column: usize) -> Changes {
     }
 }
 
-fn with_step(changes: Changes, step: Step, column: usize) -> Changes {
-    if step.answer == answer::APPLIED {
+fn with_step(changes: Changes, deed: Deed, column: usize) -> Changes {
+    if deed.answer == answer::APPLIED {
         with_column(changes, column)
     } else {
         changes
     }
 }
 
-pub(crate) fn changes_in(steps: [Step; STEPS], count: usize) -> Changes {
+pub(crate) fn changes_in(deeds: [Deed; DEEDS], count: usize) -> Changes {
     let mut changes = Changes {
         columns: [0; LISTED],
         count: 0,
     };
     let mut i: usize = 0;
-    while i < STEPS {
+    while i < DEEDS {
         if i < count {
-            let next = with_step(changes, steps[i], i);
+            let next = with_step(changes, deeds[i], i);
             changes = next;
         }
         i += 1;
@@ -67,16 +68,17 @@ pub(crate) fn lines_of(changes: Changes) -> u64
     }
 }
 
-fn say_change(step: Step, column: usize, x: u64)
-    requires { ⌜ column < 4096 ⌝ }
+fn say_change(deed: Deed, column: usize, x: u64)
+    requires { ⌜ column < mostLines ⌝ }
 {
-    let rule = step.rule;
+    let slot = deed.wish.slot;
+    let rule = slot.rule;
     say_line(x);
     say(b"record ");
     say_number(column as u64 + 1);
-    story::say_name(b": switch", step.switch as u32);
+    story::say_name(b": switch", deed.switch as u32);
     say(b" at ");
-    story::say_change(step.number, rule);
+    story::say_change(slot.number, rule);
     say_line_end();
 }
 
@@ -91,14 +93,14 @@ fn say_more(count: usize, x: u64) {
 }
 
 // A line for each, in order.
-pub(crate) fn say_changes(changes: Changes, steps: [Step; STEPS], x: u64) {
+pub(crate) fn say_changes(changes: Changes, deeds: [Deed; DEEDS], x: u64) {
     let columns = changes.columns;
     let count = changes.count;
     let mut i: usize = 0;
     while i < LISTED {
         if i < count {
-            let column = columns[i] % STEPS;
-            say_change(steps[column], column, x);
+            let column = columns[i] % DEEDS;
+            say_change(deeds[column], column, x);
         }
         i += 1;
     }

@@ -1,6 +1,7 @@
 // Where the columns stand. After forty of them there is a gap, in which the rows' names stand again: a long picture is
 // looked at in parts.
 ghost use Prim.Native.Nat.{_≤_, _<_};
+ghost use Rattle.rehearsal.specs.Limits.{mostLines};
 
 const LEFT: u64 = 100;
 
@@ -18,12 +19,12 @@ const NARROWEST: u64 = 1120;
 
 // How many columns there are.
 pub(crate) fn shown(count: usize) -> usize
-    ensures { λ r. ⌜ r ≤ 4096 ⌝ }
+    ensures { λ r. ⌜ r ≤ mostLines ⌝ }
 {
-    if count <= story::STEPS {
+    if count <= rehearsal::DEEDS {
         count
     } else {
-        story::STEPS
+        rehearsal::DEEDS
     }
 }
 
@@ -39,7 +40,7 @@ pub(crate) fn x_of(column: usize) -> u64
 
 // The right end of all columns, of which there are so many.
 pub(crate) fn right_of(count: usize) -> u64
-    requires { ⌜ count ≤ 4096 ⌝ }
+    requires { ⌜ count ≤ mostLines ⌝ }
     ensures { λ r. ⌜ r ≤ 200100 ⌝ }
 {
     if count == 0 {
@@ -63,7 +64,7 @@ pub(crate) fn names_end(block: usize) -> u64
 
 // The picture's width.
 pub(crate) fn width_of(count: usize) -> u64
-    requires { ⌜ count ≤ 4096 ⌝ }
+    requires { ⌜ count ≤ mostLines ⌝ }
 {
     let width = right_of(count) + 20;
     if width < NARROWEST { NARROWEST } else { width }

@@ -7,8 +7,8 @@ use crate::refusals;
 use crate::refusals::Refusals;
 use prose::say;
 use prose::say_number;
-use story::STEPS;
-use story::Step;
+use rehearsal::DEEDS;
+use rehearsal::Deed;
 
 const LEFT: u64 = 14;
 
@@ -73,10 +73,10 @@ fn say_refused(refusals: Refusals) {
     }
 }
 
-fn say_made(changes: Changes, steps: [Step; STEPS], x: u64) {
+fn say_made(changes: Changes, deeds: [Deed; DEEDS], x: u64) {
     if changes::lines_of(changes) != 0 {
         say_heading(x, b"changes made");
-        changes::say_changes(changes, steps, x);
+        changes::say_changes(changes, deeds, x);
         say(b"</text>\n");
     }
 }
@@ -91,13 +91,13 @@ fn beside(refusals: Refusals) -> u64 {
 }
 
 // Below the rows and the legend.
-pub(crate) fn say_lists(bottom: u64, refusals: Refusals, changes: Changes, steps: [Step; STEPS])
+pub(crate) fn say_lists(bottom: u64, refusals: Refusals, changes: Changes, deeds: [Deed; DEEDS])
     requires { ⌜ bottom ≤ 1500 ⌝ }
 {
     say(b"<g transform='translate(0 ");
     say_number(bottom + page::LEGEND);
     say(b")'>\n");
     say_refused(refusals);
-    say_made(changes, steps, beside(refusals));
+    say_made(changes, deeds, beside(refusals));
     say(b"</g>\n");
 }

@@ -1,7 +1,7 @@
 // The marks of a step, in the middle of its column. The shapes are the page's; each is placed at a depth.
 use prose::say;
 use prose::say_number;
-use story::Step;
+use rehearsal::Deed;
 
 // A shape of the page, at a depth.
 pub(crate) fn say_shape(name: &[u8], y: u64) {
@@ -93,17 +93,17 @@ pub(crate) fn say_arrow(class: &[u8], from: u64, to: u64, head: &[u8]) {
 }
 
 // What came of a message among n controllers, at the end of its arrow; numbers stand on the side that this leaves free.
-pub(crate) fn say_outcome(n: u8, step: Step, y: u64, free: &[u8]) {
-    let answer = step.answer;
+pub(crate) fn say_outcome(n: u8, deed: Deed, y: u64, free: &[u8]) {
+    let answer = deed.answer;
     say_shape(b"clear", y);
     match answer {
         answer::DONE => {
             say_shape(b"held", y);
-            say_agreeing(step.agreeing, switch::quorum(n), y, free);
+            say_agreeing(deed.agreeing, switch::quorum(n), y, free);
         }
         answer::APPLIED => {
             say_shape(b"applied", y);
-            say_figure(b"good", step.figure as u64, y, free);
+            say_figure(b"good", deed.figure as u64, y, free);
         }
         answer::REPEAT => say_shape(b"repeat", y),
         _ => say_cross(answer, y, free),

@@ -1,5 +1,6 @@
 // The document around the picture: its size, the style, the shapes that the marks are made of, and the heading.
 ghost use Prim.Native.Nat.{_≤_};
+ghost use Rattle.rehearsal.specs.Limits.{mostLines};
 use crate::columns;
 use crate::rows::Rows;
 use prose::say;
@@ -84,7 +85,7 @@ fn say_shapes(bottom: u64) {
 
 // The page before the picture, with so much height for the lists below the legend.
 pub(crate) fn say_head(bottom: u64, lists: u64, count: usize)
-    requires { ⌜ count ≤ 4096 ⌝ }
+    requires { ⌜ count ≤ mostLines ⌝ }
     requires { ⌜ bottom ≤ 1500 ⌝ }
     requires { ⌜ lists ≤ 3000 ⌝ }
 {

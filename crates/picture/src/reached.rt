@@ -1,43 +1,46 @@
 // Which rows a rehearsal needs: what each step reaches, found in a first walk over the steps.
-use story::STEPS;
-use story::Step;
+use answer::limits;
+use rehearsal::DEEDS;
+use rehearsal::Deed;
+use rehearsal::Kind;
 
 // The switches that some record reached.
 pub(crate) struct Reached {
-    pub(crate) switches: [bool; 16],
+    pub(crate) switches: [bool; limits::OF_SWITCHES],
 }
 
 // Whether something reached a switch or left it.
-pub(crate) fn travels(step: Step) -> bool {
-    let kind = step.kind;
-    if !step.begun {
+pub(crate) fn travels(deed: Deed) -> bool {
+    let item = deed.item;
+    let kind = item.kind;
+    if !deed.begun {
         return false;
     }
     match kind {
-        story::SEND => step.shared,
-        story::REPORT => true,
-        story::RAW => true,
-        story::DELIVER => true,
+        Kind::Send => deed.wish.shared,
+        Kind::Report => true,
+        Kind::Raw => true,
+        Kind::Deliver => true,
         _ => false,
     }
 }
 
-fn with_step(reached: Reached, step: Step) -> Reached {
+fn with_step(reached: Reached, deed: Deed) -> Reached {
     let mut switches = reached.switches;
-    if travels(step) {
-        switches[(step.switch % 16) as usize] = true;
+    if travels(deed) {
+        switches[(deed.switch % limits::SWITCHES) as usize] = true;
     }
     Reached { switches: switches }
 }
 
-pub(crate) fn reached_by(steps: [Step; STEPS], count: usize) -> Reached {
+pub(crate) fn reached_by(deeds: [Deed; DEEDS], count: usize) -> Reached {
     let mut reached = Reached {
-        switches: [false; 16],
+        switches: [false; limits::OF_SWITCHES],
     };
     let mut i: usize = 0;
-    while i < STEPS {
+    while i < DEEDS {
         if i < count {
-            let next = with_step(reached, steps[i]);
+            let next = with_step(reached, deeds[i]);
             reached = next;
         }
         i += 1;
@@ -47,7 +50,7 @@ pub(crate) fn reached_by(steps: [Step; STEPS], count: usize) -> Reached {
 
 fn is_reached(reached: Reached, switch: u8) -> bool {
     let switches = reached.switches;
-    if switch < 16 {
+    if switch < limits::SWITCHES {
         switches[switch as usize]
     } else {
         false
@@ -56,22 +59,26 @@ fn is_reached(reached: Reached, switch: u8) -> bool {
 
 // Whether a step among n controllers has no row: its message is in the name of none of them, it names an end that is
 // not there, or it is not even known what it names.
-fn is_outside(n: u8, reached: Reached, step: Step) -> bool {
-    let kind = step.kind;
+fn is_outside(n: u8, reached: Reached, deed: Deed) -> bool {
+    let item = deed.item;
+    let kind = item.kind;
+    if !deed.found {
+        return true;
+    }
     match kind {
-        story::DECIDE => n <= step.controller,
-        story::SEND => n <= step.controller,
-        story::KEEP => n <= step.controller,
-        story::REPORT => !is_reached(reached, step.switch),
-        story::RAW => !is_reached(reached, step.switch) || !step.shared || n <= step.controller,
-        _ => !step.begun,
+        Kind::Decide => n <= deed.controller,
+        Kind::Send => n <= deed.controller,
+        Kind::Keep => n <= deed.controller,
+        Kind::Report => !is_reached(reached, deed.switch),
+        Kind::Raw => !is_reached(reached, deed.switch) || !deed.wish.shared || n <= deed.controller,
+        Kind::Deliver => !deed.begun,
     }
 }
 
-pub(crate) fn any_outside(n: u8, reached: Reached, steps: [Step; STEPS], count: usize) -> bool {
+pub(crate) fn any_outside(n: u8, reached: Reached, deeds: [Deed; DEEDS], count: usize) -> bool {
     let mut i: usize = 0;
-    while i < STEPS {
-        if i < count && is_outside(n, reached, steps[i]) {
+    while i < DEEDS {
+        if i < count && is_outside(n, reached, deeds[i]) {
             return true;
         }
         i += 1;

@@ -5,8 +5,9 @@ use crate::listed::say_line;
 use crate::listed::say_line_end;
 use prose::say;
 use prose::say_number;
-use story::STEPS;
-use story::Step;
+use rehearsal::DEEDS;
+use rehearsal::Deed;
+use rehearsal::Kind;
 
 // No question has a number from 64 on; each has two places.
 const PLACES: usize = 128;
@@ -15,33 +16,42 @@ pub(crate) struct Refusals {
     met: [bool; PLACES],
 }
 
-fn place_of(step: Step) -> usize
+fn is_deliver(kind: Kind) -> bool {
+    match kind {
+        Kind::Deliver => true,
+        _ => false,
+    }
+}
+
+fn place_of(deed: Deed) -> usize
     ensures { λ r. ⌜ r ≤ 127 ⌝ }
 {
-    let first = (step.answer % 64) as usize * 2;
-    if step.kind == story::DELIVER && step.answer == answer::NOTHING_TO_SEND {
+    let first = (deed.answer % 64) as usize * 2;
+    let item = deed.item;
+    let kind = item.kind;
+    if deed.answer == answer::NOTHING_TO_SEND && is_deliver(kind) {
         first + 1
     } else {
         first
     }
 }
 
-fn with_step(refusals: Refusals, step: Step) -> Refusals {
+fn with_step(refusals: Refusals, deed: Deed) -> Refusals {
     let mut met = refusals.met;
-    if answer::REPEAT < step.answer {
-        met[place_of(step)] = true;
+    if answer::REPEAT < deed.answer {
+        met[place_of(deed)] = true;
     }
     Refusals { met: met }
 }
 
-pub(crate) fn refusals_in(steps: [Step; STEPS], count: usize) -> Refusals {
+pub(crate) fn refusals_in(deeds: [Deed; DEEDS], count: usize) -> Refusals {
     let mut refusals = Refusals {
         met: [false; PLACES],
     };
     let mut i: usize = 0;
-    while i < STEPS {
+    while i < DEEDS {
         if i < count {
-            let next = with_step(refusals, steps[i]);
+            let next = with_step(refusals, deeds[i]);
             refusals = next;
         }
         i += 1;
@@ -69,11 +79,11 @@ pub(crate) fn count_of(refusals: Refusals) -> u64
     count
 }
 
-fn kind_at(place: usize) -> u8 {
+fn kind_at(place: usize) -> Kind {
     if place % 2 == 1 {
-        story::DELIVER
+        Kind::Deliver
     } else {
-        story::SEND
+        Kind::Send
     }
 }
 

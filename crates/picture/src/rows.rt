@@ -1,10 +1,11 @@
 // The rows: the controllers, and below them the switches that some record reached. Above them is a line for what
-// belongs to no row, if there is such a step.
+// belongs to no row, if there is such a deed.
 ghost use Prim.Native.Nat.{_+_, _≤_};
 use crate::reached;
 use crate::reached::Reached;
-use story::STEPS;
-use story::Step;
+use answer::limits;
+use rehearsal::DEEDS;
+use rehearsal::Deed;
 
 // The records' ordinals, and what belongs to no row.
 pub(crate) const ORDINALS: u64 = 66;
@@ -18,7 +19,7 @@ const HEIGHT: u64 = 36;
 pub(crate) struct Rows {
     pub(crate) n: u8,
     pub(crate) outside: bool,
-    pub(crate) switches: [u64; 16],
+    pub(crate) switches: [u64; limits::OF_SWITCHES],
     pub(crate) answers: u64,
     pub(crate) figures: u64,
     pub(crate) bottom: u64,
@@ -42,7 +43,11 @@ fn row(outside: bool, k: u8) -> u64
 fn at_most_16(n: u8) -> u8
     ensures { λ r. ⌜ r ≤ 16 ⌝ }
 {
-    if n <= 16 { n } else { 16 }
+    if n <= limits::CONTROLLERS {
+        n
+    } else {
+        limits::CONTROLLERS
+    }
 }
 
 fn depth_if(there: bool, y: u64) -> u64 {
@@ -62,10 +67,10 @@ fn rows_with(n: u8, outside: bool, reached: Reached) -> Rows
     ensures { λ r. ⌜ r .bottom ≤ 1500 ⌝ }
 {
     let there = reached.switches;
-    let mut switches = [0u64; 16];
+    let mut switches = [0u64; limits::OF_SWITCHES];
     let mut y = row(outside, at_most_16(n)) + 20;
     let mut i: usize = 0;
-    while i < 16 {
+    while i < limits::OF_SWITCHES {
         switches[i] = depth_if(there[i], y);
         let next = below(there[i], y);
         y = next;
@@ -81,11 +86,11 @@ fn rows_with(n: u8, outside: bool, reached: Reached) -> Rows
     }
 }
 
-pub(crate) fn rows_of(n: u8, steps: [Step; STEPS], count: usize) -> Rows
+pub(crate) fn rows_of(n: u8, deeds: [Deed; DEEDS], count: usize) -> Rows
     ensures { λ r. ⌜ r .bottom ≤ 1500 ⌝ }
 {
-    let reached = reached::reached_by(steps, count);
-    let outside = reached::any_outside(n, reached, steps, count);
+    let reached = reached::reached_by(deeds, count);
+    let outside = reached::any_outside(n, reached, deeds, count);
     rows_with(n, outside, reached)
 }
 
@@ -100,7 +105,7 @@ pub(crate) fn controller_y(rows: Rows, controller: u8) -> u64 {
 
 pub(crate) fn has_switch(rows: Rows, switch: u8) -> bool {
     let switches = rows.switches;
-    if switch < 16 {
+    if switch < limits::SWITCHES {
         switches[switch as usize] != 0
     } else {
         false
@@ -110,7 +115,7 @@ pub(crate) fn has_switch(rows: Rows, switch: u8) -> bool {
 pub(crate) fn switch_y(rows: Rows, switch: u8) -> u64 {
     let switches = rows.switches;
     if has_switch(rows, switch) {
-        switches[(switch % 16) as usize]
+        switches[(switch % limits::SWITCHES) as usize]
     } else {
         OUTSIDE
     }

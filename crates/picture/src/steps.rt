@@ -1,5 +1,6 @@
 // A step's column: the record's ordinal above the rows, the marks, and the answer and the figure below.
 ghost use Prim.Native.Nat.{_<_};
+ghost use Rattle.rehearsal.specs.Limits.{mostLines};
 use crate::columns;
 use crate::marks::say_aim;
 use crate::marks::say_arrow;
@@ -13,100 +14,107 @@ use crate::rows;
 use crate::rows::Rows;
 use prose::say;
 use prose::say_number;
-use story::STEPS;
-use story::Step;
+use rehearsal::DEEDS;
+use rehearsal::Deed;
+use rehearsal::Kind;
 
-fn say_decide(rows: Rows, step: Step) {
-    let y = rows::controller_y(rows, step.controller);
-    if step.answer == answer::DONE {
+fn say_decide(rows: Rows, deed: Deed) {
+    let y = rows::controller_y(rows, deed.controller);
+    if deed.answer == answer::DONE {
         say_shape(b"square", y);
     } else {
-        say_failed(b"square", step.answer, y);
+        say_failed(b"square", deed.answer, y);
     }
 }
 
-fn say_keep(rows: Rows, step: Step) {
-    let y = rows::controller_y(rows, step.controller);
-    if step.answer == answer::DONE {
+fn say_keep(rows: Rows, deed: Deed) {
+    let item = deed.item;
+    let y = rows::controller_y(rows, deed.controller);
+    if deed.answer == answer::DONE {
         say(b"<g class='kept'>");
         say_shape(b"diamond", y);
         say(b"</g>");
-        say_figure(b"in", step.place as u64, y, b"3.5");
-        say_aim(step.switch, y, b"21");
+        say_figure(b"in", item.place as u64, y, b"3.5");
+        say_aim(deed.switch, y, b"21");
     } else {
-        say_failed(b"diamond", step.answer, y);
-        say_aim(step.switch, y, b"31");
+        say_failed(b"diamond", deed.answer, y);
+        say_aim(deed.switch, y, b"31");
     }
 }
 
 // A message to a switch, from a row above it.
-fn say_share(rows: Rows, step: Step, class: &[u8], from: u64, x: u64, right: u64) {
-    let to = rows::switch_y(rows, step.switch);
-    if step.answer == answer::APPLIED {
+fn say_share(rows: Rows, deed: Deed, class: &[u8], from: u64, x: u64, right: u64) {
+    let to = rows::switch_y(rows, deed.switch);
+    if deed.answer == answer::APPLIED {
         say_band(to, columns::length_of(x, right));
     }
     say_arrow(class, from, to, b"down");
-    say_outcome(rows.n, step, to, b"18");
+    say_outcome(rows.n, deed, to, b"18");
 }
 
 // A controller has nothing ready: no message is made.
-fn say_send(rows: Rows, step: Step, x: u64, right: u64) {
-    let from = rows::controller_y(rows, step.controller);
-    if step.shared {
-        say_share(rows, step, b"send", from, x, right);
+fn say_send(rows: Rows, deed: Deed, x: u64, right: u64) {
+    let from = rows::controller_y(rows, deed.controller);
+    if deed.wish.shared {
+        say_share(rows, deed, b"send", from, x, right);
     } else {
-        say_refused(step.answer, from);
-        say_aim(step.switch, from, b"28");
+        say_refused(deed.answer, from);
+        say_aim(deed.switch, from, b"28");
     }
 }
 
 // A report that is taken leaves no mark but the arrow.
-fn say_report(rows: Rows, step: Step) {
-    let from = rows::switch_y(rows, step.switch);
-    let to = rows::controller_y(rows, step.controller);
-    if step.answer == answer::DONE {
+fn say_report(rows: Rows, deed: Deed) {
+    let from = rows::switch_y(rows, deed.switch);
+    let to = rows::controller_y(rows, deed.controller);
+    if deed.answer == answer::DONE {
         say_arrow(b"report", from, to, b"into");
     } else {
         say_arrow(b"report", from, to, b"up");
-        say_outcome(rows.n, step, to, b"-11");
+        say_outcome(rows.n, deed, to, b"-11");
     }
 }
 
 // Bytes that are no share are in nobody's name.
-fn raw_y(rows: Rows, step: Step) -> u64 {
-    if step.shared {
-        rows::controller_y(rows, step.controller)
+fn raw_y(rows: Rows, deed: Deed) -> u64 {
+    if deed.wish.shared {
+        rows::controller_y(rows, deed.controller)
     } else {
         rows::OUTSIDE
     }
 }
 
 // Where a record that names what there is not would have begun.
-fn unbegun_y(rows: Rows, step: Step) -> u64 {
-    let kind = step.kind;
+fn unbegun_y(rows: Rows, deed: Deed) -> u64 {
+    let item = deed.item;
+    let kind = item.kind;
+    if !deed.found {
+        return rows::OUTSIDE;
+    }
     match kind {
-        story::DECIDE => rows::controller_y(rows, step.controller),
-        story::SEND => rows::controller_y(rows, step.controller),
-        story::KEEP => rows::controller_y(rows, step.controller),
-        story::REPORT => rows::switch_y(rows, step.switch),
-        story::RAW => rows::switch_y(rows, step.switch),
-        _ => rows::OUTSIDE,
+        Kind::Decide => rows::controller_y(rows, deed.controller),
+        Kind::Send => rows::controller_y(rows, deed.controller),
+        Kind::Keep => rows::controller_y(rows, deed.controller),
+        Kind::Report => rows::switch_y(rows, deed.switch),
+        Kind::Raw => rows::switch_y(rows, deed.switch),
+        Kind::Deliver => rows::OUTSIDE,
     }
 }
 
-fn say_begun(rows: Rows, step: Step, x: u64, right: u64) {
-    let kind = step.kind;
+fn say_begun(rows: Rows, deed: Deed, x: u64, right: u64) {
+    let item = deed.item;
+    let kind = item.kind;
     match kind {
-        story::DECIDE => say_decide(rows, step),
-        story::SEND => say_send(rows, step, x, right),
-        story::REPORT => say_report(rows, step),
-        story::RAW => say_share(rows, step, b"raw", raw_y(rows, step), x, right),
-        story::KEEP => say_keep(rows, step),
-        _ => say_share(
+        Kind::Decide => say_decide(rows, deed),
+        Kind::Send => say_send(rows, deed, x, right),
+        Kind::Report => say_report(rows, deed),
+        Kind::Raw => say_share(rows, deed, b"raw", raw_y(rows, deed), x, right),
+        Kind::Keep => say_keep(rows, deed),
+        Kind::Deliver => say_share(
             rows,
-            step,
+            deed,
             b"late",
-            rows::controller_y(rows, step.controller),
+            rows::controller_y(rows, deed.controller),
             x,
             right,
         ),
@@ -114,46 +122,46 @@ fn say_begun(rows: Rows, step: Step, x: u64, right: u64) {
 }
 
 // What is shown when the pointer rests on the column: the rehearsal's line, and the step in words.
-fn say_hint(n: u8, step: Step, ordinal: usize) {
+fn say_hint(n: u8, deed: Deed, ordinal: usize) {
     say(b"<title>");
-    story::say_line(ordinal, step.answer, step.figure);
+    story::say_line(ordinal, deed.answer, deed.figure);
     say(b"  ");
-    story::say_words(n, step);
+    story::say_words(n, deed);
     say(b"</title><use href='#column' class='column'/>");
 }
 
-fn say_figures(rows: Rows, step: Step) {
-    say_figure(b"plain", step.answer as u64, rows.answers, b"4");
-    say_figure(b"plain", step.figure as u64, rows.figures, b"4");
+fn say_figures(rows: Rows, deed: Deed) {
+    say_figure(b"plain", deed.answer as u64, rows.answers, b"4");
+    say_figure(b"plain", deed.figure as u64, rows.figures, b"4");
 }
 
-fn say_step(rows: Rows, step: Step, ordinal: usize, x: u64, right: u64) {
+fn say_step(rows: Rows, deed: Deed, ordinal: usize, x: u64, right: u64) {
     say(b"<g class='step' transform='translate(");
     say_number(x);
     say(b")'>");
-    say_hint(rows.n, step, ordinal);
+    say_hint(rows.n, deed, ordinal);
     say_figure(b"plain", ordinal as u64, rows::ORDINALS, b"4");
-    if step.begun {
-        say_begun(rows, step, x, right);
+    if deed.begun {
+        say_begun(rows, deed, x, right);
     } else {
-        say_refused(step.answer, unbegun_y(rows, step));
+        say_refused(deed.answer, unbegun_y(rows, deed));
     }
-    say_figures(rows, step);
+    say_figures(rows, deed);
     say(b"</g>\n");
 }
 
-fn say_column(rows: Rows, step: Step, column: usize, right: u64)
-    requires { ⌜ column < 4096 ⌝ }
+fn say_column(rows: Rows, deed: Deed, column: usize, right: u64)
+    requires { ⌜ column < mostLines ⌝ }
 {
-    say_step(rows, step, column + 1, columns::x_of(column), right);
+    say_step(rows, deed, column + 1, columns::x_of(column), right);
 }
 
 // One after the other in a group of their own, where every other one is shaded.
-pub(crate) fn say_steps(rows: Rows, steps: [Step; STEPS], count: usize, right: u64) {
+pub(crate) fn say_steps(rows: Rows, deeds: [Deed; DEEDS], count: usize, right: u64) {
     let mut i: usize = 0;
-    while i < STEPS {
+    while i < DEEDS {
         if i < count {
-            say_column(rows, steps[i], i, right);
+            say_column(rows, deeds[i], i, right);
         }
         i += 1;
     }

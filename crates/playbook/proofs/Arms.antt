@@ -9,16 +9,17 @@ use lib.Dec.{ltb, leb, eqb}
 use lib.ListN.{length, take, drop, set, getD}
 use borrow.Author.Tests.{lt-ltb, le-ltb, ltb-true, leb-true}
 use Rattle.answer.specs.Ask.{Question, reply, firstNo}
+use Rattle.answer.specs.Limits.{switchCount}
 use Rattle.answer.proofs.Asked.{none-asked, refused, asked, answered, From}
 use Rattle.answer.proofs.Bools.{and-parts}
 use Rattle.lists.specs.Kinds.{among}
 use Rattle.flow.specs.Rules.{ruleKey, wellFormed}
-use Rattle.playbook.specs.Limits.{maxPlans, maxChanges, maxOfPlan, maxKeys, switchCount, planSize, changeSize}
-use Rattle.playbook.specs.Books.{Book, emptyPlan, meaning, Trigger, hasTrigger, newPlan, lastCount, kindsOn}
-use Rattle.playbook.specs.Books.{withPlan, withChange, planQuestions, changeQuestions}
-use Rattle.playbook.specs.Records.{recordAt}
+use Rattle.playbook.specs.Limits.{maxPlans, maxChanges, maxOfPlan, maxKeys, planSize, changeSize}
+use Rattle.playbook.specs.Books.{Book, emptyPlan, bookOf, Trigger, hasTrigger, newPlan, lastCount, kindsOn}
+use Rattle.playbook.specs.Books.{withPlan, withChange}
 use Rattle.playbook.specs.Reading.{refusal, readFirst}
-use Rattle.playbook.specs.Storing.{keyNumber}
+use Rattle.playbook.specs.Gathering.{keyNumber}
+use Rattle.playbook.specs.Asking.{recordAt, planQuestions, changeQuestions}
 use Rattle.playbook.specs.declared.Change.{Change}
 use Rattle.playbook.specs.declared.Plan.{Plan}
 use Rattle.playbook.specs.declared.Playbook.{Playbook}
@@ -34,8 +35,8 @@ use Rattle.playbook.proofs.Past.{SoFar, Turn, plan-turn, change-turn}
 -- the bytes up to a place are read: the store, the flags of the triggers and the keys hold what they say
 pub record Reads (s : List ℕ) (p : Playbook) (used seen counts hints : List ℕ) (at : ℕ) : Type 0 where
   pub so-far : SoFar s p at
-  pub marked : Marked used (meaning p .plans)
-  pub collected : Collected seen counts (meaning p .changes)
+  pub marked : Marked used (bookOf p .plans)
+  pub collected : Collected seen counts (bookOf p .changes)
   pub hinted : Hinted hints seen counts
 
 -- questions before others: the first that is answered no, and none
@@ -55,7 +56,7 @@ module _ {s : List ℕ} {p : Playbook} {used seen counts hints : List ℕ} {at :
     (r : Reads s p used seen counts hints at) (more : at < length s) where
   -- a plan's record
   module _ (t : Trigger) (here : recordAt (drop at s) ≡ Opens (t .0) (t .1)) where
-    arrives : (k : ℕ) → k ≡ firstNo (planQuestions (meaning p) t) → Turn s k (withPlan (meaning p) t) (at + planSize)
+    arrives : (k : ℕ) → k ≡ firstNo (planQuestions (bookOf p) t) → Turn s k (withPlan (bookOf p) t) (at + planSize)
     arrives = plan-turn s p at (r .so-far) more t here
 
     pub plan-unknown : switchCount ≤ t .0 → refusal 12 ≡ readFirst s
@@ -63,12 +64,12 @@ module _ {s : List ℕ} {p : Playbook} {used seen counts hints : List ℕ} {at :
 
     module _ (known : t .0 < switchCount) (byte : t .1 < 256) (place : ℕ) (is : place ≡ placeOf t) (k : ℕ)
         (first : k ≡ firstNo ((35, eqb (getD used place 0) 0) ∷ (36, ltb (p .planned) maxPlans) ∷ [])) where
-      asked-all : k ≡ firstNo (planQuestions (meaning p) t)
+      asked-all : k ≡ firstNo (planQuestions (bookOf p) t)
       asked-all =
           first
           ∙ ap (λ (b : Bool). firstNo ((35, b) ∷ (36, ltb (p .planned) maxPlans) ∷ []))
           (ap (λ (i : ℕ). eqb (getD used i 0) 0) is ∙ r .marked .each t known byte)
-          ∙ ap (λ (n : ℕ). firstNo ((35, not (hasTrigger t (meaning p .plans))) ∷ (36, ltb n maxPlans) ∷ []))
+          ∙ ap (λ (n : ℕ). firstNo ((35, not (hasTrigger t (bookOf p .plans))) ∷ (36, ltb n maxPlans) ∷ []))
           (sound-planned p (r .so-far .1))
           ∙ sym (asked _ _ 12 _ _ (lt-ltb _ _ known))
 
@@ -82,7 +83,7 @@ module _ {s : List ℕ} {p : Playbook} {used seen counts hints : List ℕ} {at :
         pub plan-goes-on : Reads s (planStored p t) (set used place 1) seen counts hints (at + planSize)
         plan-goes-on =
             let on = arrives k asked-all .goes-on none (planStored p t) (plan-more p t (r .so-far .1)) in
-            let marked = marked-more (r .marked) (newPlan t (length (meaning p .changes))) place is known byte in
+            let marked = marked-more (r .marked) (newPlan t (length (bookOf p .changes))) place is known byte in
             record {
               so-far = on .0;
               marked = subst⁻¹ (λ (b : Book). Marked (set used place 1) (b .plans)) (on .1) marked;
@@ -94,17 +95,17 @@ module _ {s : List ℕ} {p : Playbook} {used seen counts hints : List ℕ} {at :
   module _ (c : Change) (here : recordAt (drop at s) ≡ Lists c) (k : ℕ)
       (first : k ≡ firstNo ((12, ltb (c .switch) switchCount) ∷ (34, ltb 0 (p .planned)) ∷ (15, wellFormed (c .rule))
       ∷ [])) where
-    comes : (k : ℕ) → k ≡ firstNo (changeQuestions (meaning p) c)
-        → Turn s k (withChange (meaning p) c) (at + changeSize)
+    comes : (k : ℕ) → k ≡ firstNo (changeQuestions (bookOf p) c)
+        → Turn s k (withChange (bookOf p) c) (at + changeSize)
     comes = change-turn s p at (r .so-far) more c here
 
     -- the questions in two parts
     abbrev early : List Question
     early =
-        (12, ltb (c .switch) switchCount) ∷ (34, ltb 0 (length (meaning p .plans))) ∷ (15, wellFormed (c .rule)) ∷ []
+        (12, ltb (c .switch) switchCount) ∷ (34, ltb 0 (length (bookOf p .plans))) ∷ (15, wellFormed (c .rule)) ∷ []
 
     abbrev late : List Question
-    late = drop 3 (changeQuestions (meaning p) c)
+    late = drop 3 (changeQuestions (bookOf p) c)
 
     on-book : k ≡ firstNo early
     on-book =
@@ -117,7 +118,7 @@ module _ {s : List ℕ} {p : Playbook} {used seen counts hints : List ℕ} {at :
         comes k (on-book ∙ sym (first-no early late (λ z. some (on-book ∙ z)))) .stops some
 
     module _ (none : k ≡ 0) where
-      passes : firstNo (changeQuestions (meaning p) c) ≡ firstNo late
+      passes : firstNo (changeQuestions (bookOf p) c) ≡ firstNo late
       passes = first-yes early late refl (sym on-book ∙ none)
 
       pub change-known : c .switch < switchCount
@@ -133,7 +134,7 @@ module _ {s : List ℕ} {p : Playbook} {used seen counts hints : List ℕ} {at :
       abbrev free : Bool
       free = ltb (p .listed) maxChanges && ltb (lastPlan .count) maxOfPlan
 
-      free-book : (ltb (length (meaning p .changes)) maxChanges && ltb (lastCount (meaning p .plans)) maxOfPlan) ≡ free
+      free-book : (ltb (length (bookOf p .changes)) maxChanges && ltb (lastCount (bookOf p .plans)) maxOfPlan) ≡ free
       free-book =
           let sound = r .so-far .1 in
           rw (← sound-listed p sound, last-count p sound change-some)
@@ -148,12 +149,12 @@ module _ {s : List ℕ} {p : Playbook} {used seen counts hints : List ℕ} {at :
             let both = and-parts (ltb (p .listed) maxChanges) _ room in
             (ltb-true _ _ (both .0), ltb-true _ _ (both .1))
 
-        passes-36 : firstNo (changeQuestions (meaning p) c)
-            ≡ firstNo ((37, leb (kindsOn (c .switch) (meaning p .changes ++ c ∷ [])) maxKeys) ∷ [])
+        passes-36 : firstNo (changeQuestions (bookOf p) c)
+            ≡ firstNo ((37, leb (kindsOn (c .switch) (bookOf p .changes ++ c ∷ [])) maxKeys) ∷ [])
         passes-36 = passes ∙ asked _ _ 36 _ _ (free-book ∙ room)
 
-        change-on : leb (kindsOn (c .switch) (meaning p .changes ++ c ∷ [])) maxKeys ≡ true
-            → (seen′ counts′ hints′ : List ℕ) → Collected seen′ counts′ (meaning p .changes ++ c ∷ [])
+        change-on : leb (kindsOn (c .switch) (bookOf p .changes ++ c ∷ [])) maxKeys ≡ true
+            → (seen′ counts′ hints′ : List ℕ) → Collected seen′ counts′ (bookOf p .changes ++ c ∷ [])
             → Hinted hints′ seen′ counts′ → Reads s (changeStored p c) used seen′ counts′ hints′ (at + changeSize)
         change-on fits seen′ counts′ hints′ g h =
             let on = comes 0 (sym (passes-36 ∙ asked _ _ 37 _ _ fits ∙ none-asked _ _)) .goes-on refl (changeStored p c)
@@ -161,7 +162,7 @@ module _ {s : List ℕ} {p : Playbook} {used seen counts hints : List ℕ} {at :
             record {
               so-far = on .0;
               marked = subst⁻¹ (λ (b : Book). Marked used (b .plans)) (on .1)
-                  (marked-same (r .marked) (sym (count-triggers (meaning p .plans))));
+                  (marked-same (r .marked) (sym (count-triggers (bookOf p .plans))));
               collected = subst⁻¹ (λ (b : Book). Collected seen′ counts′ (b .changes)) (on .1) g;
               hinted = h;
             }

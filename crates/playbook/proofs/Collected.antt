@@ -9,15 +9,16 @@ use lib.Dec.{leb, eqb}
 use lib.ListN.{length, take, drop, set, getD, replicate, length-set, length-take, length-drop, getD-replicate}
 use lib.Seq.{getD-set-same, getD-set-other, take-set-le, take-set-lt, drop-set-lt, drop-set-add}
 use borrow.Author.Tests.{lt-leb}
+use Rattle.answer.specs.Limits.{switchCount}
 use Rattle.answer.proofs.Bools.{by-eq, by-le}
 use Rattle.lists.specs.Kinds.{among, kinds}
 use Rattle.lists.proofs.Members.{among-snoc}
 use Rattle.lists.proofs.Pigeonhole.{kinds-within}
 use Rattle.flow.specs.Rules.{Key, ruleKey, sameKey}
 use Rattle.flow.proofs.Order.{key-sound, key-mine}
-use Rattle.playbook.specs.Limits.{maxKeys, switchCount}
+use Rattle.playbook.specs.Limits.{maxKeys}
 use Rattle.playbook.specs.Books.{keysOn, kindsOn}
-use Rattle.playbook.specs.Storing.{keyNumber}
+use Rattle.playbook.specs.Gathering.{keyNumber}
 use Rattle.playbook.specs.declared.Change.{Change}
 use Rattle.playbook.proofs.Few.{keys-on, keys-off}
 use Rattle.playbook.proofs.Gathered.{Gathered, gathered-none, gathered-fits, gathered-known, gathered-full}

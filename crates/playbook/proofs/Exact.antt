@@ -3,29 +3,29 @@
 use mathlib.Core.Path.{_≡_, refl, sym, ap, _∙_}
 use mathlib.Core.Logic.{_↔_}
 use mathlib.Core.List.{List, [], _∷_}
-use mathlib.Core.Bool.{Bool, true, false}
+use mathlib.Core.Bool.{Bool, true}
 use Prim.Native.Nat.{ℕ, zero, suc, _+_, _*_, _≤_, _<_}
 use native.Mathlib.Omega.{arith}
-use lib.Dec.{ltb, leb, eqb}
+use lib.Dec.{ltb, leb}
 use lib.ListN.{length, take, drop, length-append}
-use borrow.Author.Tests.{ltb-true, leb-true, eqb-true, eqb-false, lt-ltb}
-use Rattle.answer.proofs.Asked.{refused}
-use Rattle.answer.proofs.Bools.{by-bool, and-join, and-parts}
-use Rattle.lists.specs.Arrays.{everyTail, every}
+use borrow.Author.Tests.{ltb-true, leb-true, lt-ltb}
+use Rattle.answer.specs.Limits.{switchCount}
+use Rattle.answer.proofs.Bools.{and-join, and-parts}
+use Rattle.lists.specs.Arrays.{every}
 use Rattle.lists.specs.Bytes.{be, AreBytes}
 use Rattle.lists.proofs.Tails.{every-take, every-drop}
 use Rattle.flow.specs.Rules.{ruleKey, prefixOk}
-use Rattle.playbook.specs.Limits.{maxPlans, maxChanges, switchCount, planSize, changeSize, endSize}
-use Rattle.playbook.specs.Books.{noPlans, meaning}
+use Rattle.playbook.specs.Limits.{maxPlans, maxChanges, endKind, planSize, changeSize, endSize, mostBytes}
+use Rattle.playbook.specs.Books.{noPlans, bookOf}
 use Rattle.playbook.specs.Printing.{planBytes, changeBytes, changesBytes, plansBytes, bytesOf, InRange}
-use Rattle.playbook.specs.Reading.{refusal, readFirst, readWhole}
+use Rattle.playbook.specs.Reading.{readFirst, readWhole}
 use Rattle.playbook.specs.Storing.{spans, changeOk, bookOk, storedOk}
 use Rattle.playbook.specs.declared.Change.{Change}
 use Rattle.playbook.specs.declared.Outcome.{Outcome}
 use Rattle.playbook.specs.declared.Plan.{Plan}
 use Rattle.playbook.specs.declared.Playbook.{Playbook}
 use Rattle.playbook.proofs.Kept.{book-parts, stored-limits, plan-kept, change-kept, none-ok}
-use Rattle.playbook.proofs.Kept.{read-keeps, read-stored}
+use Rattle.playbook.proofs.Kept.{read-keeps, whole-first, read-stored}
 use Rattle.playbook.proofs.Printed.{printed-length, print-read}
 use Rattle.playbook.proofs.Sound.{count-length}
 use Rattle.playbook.proofs.Spans.{span-parts}
@@ -38,30 +38,19 @@ exact p np nc r = (
   (λ x. ap storedOk (sym (ap (λ (o : Outcome). o .playbook) (x .1))) ∙ read-stored (x .0)),
 )
 
--- the longest playbook that is read, and the longest that is printed: 5313 bytes
-abbrev pub mostBytes : ℕ
-mostBytes = planSize * maxPlans + changeSize * maxChanges + endSize
-
+-- the longest playbook that is read, and the longest that is printed
 pub read-length : (s : List ℕ) → readFirst s .used ≤ mostBytes
 read-length s =
     read-keeps (λ r. r .used ≤ mostBytes)
     (λ used b. (bookOk b ≡ true) × (used ≤ planSize * length (b .plans) + changeSize * length (b .changes)))
-    (λ r. Unit {0}) (λ k. omega arith)
-    (λ used b h. let l = book-parts b (h .0) in omega (arith, h .1, l .plans, l .changes))
-    (λ used b t h pass. (plan-kept b t (h .0) pass, rw length-append (omega (arith, h .1))))
+    (λ at r. Unit {0}) (λ k n. omega arith)
+    (λ used b h says. let l = book-parts b (h .0) in omega (arith, h .1, l .plans, l .changes))
+    (λ used b t h says pass. (plan-kept b t (h .0) pass, rw length-append (omega (arith, h .1))))
     (λ used b c h says pass. (change-kept b c (h .0) pass, rw (count-length, length-append) (omega (arith, h .1))))
     0 s 0 noPlans (λ i. tt) (none-ok, omega arith)
 
 pub whole-length : (s : List ℕ) → readWhole s .answer ≡ 0 → length s ≤ mostBytes
-whole-length s h =
-    let r = readFirst s in
-    by-bool (eqb (r .answer) 0)
-    (λ e. by-bool (eqb (r .used) (length s)) (λ u. omega (arith, read-length s, eqb-true (r .used) (length s) u))
-    (λ u. absurd (omega (arith, h, ap (λ (o : Outcome). o .answer) (left e u)))))
-    (λ e. absurd (eqb-false (r .answer) 0 e (rw e at h)))
-  where
-    left : eqb (readFirst s .answer) 0 ≡ true → eqb (readFirst s .used) (length s) ≡ false → readWhole s ≡ refusal 38
-    left e u = rw e (refused _ _ 38 _ _ u)
+whole-length s h = omega (arith, read-length s, whole-first (length s) (readFirst s) h .1)
 
 pub print-length : (p : Playbook) → storedOk p ≡ true → length (bytesOf p) ≤ mostBytes
 print-length p h =
@@ -79,13 +68,13 @@ abbrev isByte : ℕ → Bool
 isByte b = ltb b 256
 
 are-bytes : (s : List ℕ) → every isByte s ≡ true → AreBytes s
-unfolding everyTail
+unfolding every
 are-bytes [] h i = omega arith
 are-bytes (b ∷ s) h zero = ltb-true b 256 (and-parts (isByte b) (every isByte s) h .0)
 are-bytes (b ∷ s) h (suc i) = are-bytes s (and-parts (isByte b) (every isByte s) h .1) i
 
 byte : (b : ℕ) (rest : List ℕ) → b < 256 → every isByte rest ≡ true → every isByte (b ∷ rest) ≡ true
-unfolding everyTail
+unfolding every
 byte b rest h k = and-join (isByte b) _ (lt-ltb b 256 h) k
 
 change-bytes : (c : Change) (rest : List ℕ) → changeOk c ≡ true → flowInRange c ≡ true → every isByte rest ≡ true
@@ -102,7 +91,7 @@ change-bytes c rest o f h =
 
 changes-bytes : (cs : List Change) (rest : List ℕ) → every changeOk cs ≡ true → every flowInRange cs ≡ true
     → every isByte rest ≡ true → every isByte (changesBytes cs rest) ≡ true
-unfolding changesBytes everyTail
+unfolding changesBytes every
 changes-bytes [] rest o f h = h
 changes-bytes (c ∷ cs) rest o f h =
     let a = and-parts (changeOk c) (every changeOk cs) o in
@@ -113,30 +102,35 @@ plan-bytes : (q : Plan) (rest : List ℕ) → q .switch < switchCount → causeI
     → every isByte rest ≡ true → every isByte (planBytes q rest) ≡ true
 plan-bytes q rest s c h = byte _ _ (omega arith) (byte _ _ (omega arith) (byte _ _ (ltb-true _ _ c) h))
 
-plans-bytes : (qs : List Plan) (cs : List Change) (from end : ℕ) → spans from end qs ≡ true
+plans-bytes : (qs : List Plan) (cs : List Change) (rest : List ℕ) (from end : ℕ) → spans from end qs ≡ true
     → every causeInRange qs ≡ true → every changeOk cs ≡ true → every flowInRange cs ≡ true
-    → every isByte (plansBytes qs cs) ≡ true
-unfolding plansBytes everyTail
-plans-bytes [] cs from end s r o f = refl
-plans-bytes (q ∷ qs) cs from end s r o f =
+    → every isByte rest ≡ true → every isByte (plansBytes qs cs rest) ≡ true
+unfolding plansBytes every
+plans-bytes [] cs rest from end s r o f h = h
+plans-bytes (q ∷ qs) cs rest from end s r o f h =
     let t = span-parts from end q qs s in
     let a = and-parts (causeInRange q) (every causeInRange qs) r in
     let n = q .count in
-    let others = plans-bytes qs (drop n cs) (from + n) end (t .rest) (a .1) (every-drop changeOk n cs o)
-    (every-drop flowInRange n cs f) in
-    let own = changes-bytes (take n cs) (plansBytes qs (drop n cs)) (every-take changeOk n cs o)
+    let others = plans-bytes qs (drop n cs) rest (from + n) end (t .rest) (a .1) (every-drop changeOk n cs o)
+    (every-drop flowInRange n cs f) h in
+    let own = changes-bytes (take n cs) (plansBytes qs (drop n cs) rest) (every-take changeOk n cs o)
     (every-take flowInRange n cs f) others in
-    plan-bytes q (changesBytes (take n cs) (plansBytes qs (drop n cs))) (t .known) (a .0) own
+    plan-bytes q (changesBytes (take n cs) (plansBytes qs (drop n cs) rest)) (t .known) (a .0) own
 
-pub print-bytes : (p : Playbook) → storedOk p ≡ true → every causeInRange (meaning p .plans) ≡ true
-    → every flowInRange (meaning p .changes) ≡ true → AreBytes (bytesOf p)
+end-bytes : every isByte (endKind ∷ []) ≡ true
+unfolding every
+end-bytes = refl
+
+pub print-bytes : (p : Playbook) → storedOk p ≡ true → every causeInRange (bookOf p .plans) ≡ true
+    → every flowInRange (bookOf p .changes) ≡ true → AreBytes (bytesOf p)
 print-bytes p h q f =
     let l = stored-limits p h in
-    are-bytes (bytesOf p) (plans-bytes (meaning p .plans) (meaning p .changes) 0 _ (l .spanned) q (l .rules) f)
+    are-bytes (bytesOf p)
+    (plans-bytes (bookOf p .plans) (bookOf p .changes) (endKind ∷ []) 0 _ (l .spanned) q (l .rules) f end-bytes)
 
 -- and so the bytes of `exact` may be asked to be bytes
 pub exact-bytes : (p : Playbook) → length (p .plans) ≡ maxPlans → length (p .changes) ≡ maxChanges → InRange p
-    → every causeInRange (meaning p .plans) ≡ true → every flowInRange (meaning p .changes) ≡ true
+    → every causeInRange (bookOf p .plans) ≡ true → every flowInRange (bookOf p .changes) ≡ true
     → (storedOk p ≡ true)
     ↔ ((s : List ℕ) × AreBytes s × (readWhole s ≡ record { answer = 0; used = length s; playbook = p }))
 exact-bytes p np nc r q f =

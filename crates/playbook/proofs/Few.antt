@@ -8,6 +8,7 @@ use native.Mathlib.Omega.{arith}
 use lib.Dec.{leb, eqb}
 use lib.ListN.{length, getD}
 use borrow.Author.Tests.{leb-true, le-leb, eq-eqb, ne-eqb}
+use Rattle.answer.specs.Limits.{switchCount}
 use Rattle.answer.proofs.Bools.{by-bool, by-eq, tf, and-join, and-parts, or-left, or-right}
 use Rattle.lists.specs.Kinds.{among, different}
 use Rattle.lists.proofs.Pigeonhole.{pigeonhole, kinds-append}
@@ -17,8 +18,8 @@ use Rattle.flow.specs.declared.Rule.{Rule}
 use Rattle.flow.proofs.Order.{key-sound, key-mine}
 use Rattle.flow.proofs.Kept.{Ordered}
 use Rattle.flow.proofs.Keys.{Within, Takes, takes}
-use Rattle.playbook.specs.Limits.{maxKeys, switchCount}
-use Rattle.playbook.specs.Books.{Book, meaning, isOn, keysOn, kindsOn}
+use Rattle.playbook.specs.Limits.{maxKeys}
+use Rattle.playbook.specs.Books.{Book, bookOf, isOn, keysOn, kindsOn}
 use Rattle.playbook.specs.Storing.{fewKeysBelow, bookOk, storedOk}
 use Rattle.playbook.specs.declared.Change.{Change}
 use Rattle.playbook.specs.declared.Playbook.{Playbook}
@@ -72,24 +73,24 @@ book-kinds : (b : Book) (s : ℕ) → bookOk b ≡ true → s < switchCount → 
 book-kinds b s h l = few-below switchCount s (b .changes) (book-few b h) l
 
 pub stored-kinds : (p : Playbook) (s : ℕ) → storedOk p ≡ true → s < switchCount
-    → kindsOn s (meaning p .changes) ≤ maxKeys
+    → kindsOn s (bookOf p .changes) ≤ maxKeys
 unfolding storedOk
-stored-kinds p s h l = book-kinds (meaning p) s (by-bool _ (λ e. e) (λ e. tf h (rw (e, and-false)))) l
+stored-kinds p s h l = book-kinds (bookOf p) s (by-bool _ (λ e. e) (λ e. tf h (rw (e, and-false)))) l
 
 -- different keys drawn from the changes on a switch are few
 pub stored-few : (p : Playbook) (s : ℕ) → storedOk p ≡ true → s < switchCount → (ks : List Key)
     → different sameKey ks ≡ true
-    → ((k : Key) → among sameKey k ks ≡ true → among sameKey k (keysOn s (meaning p .changes)) ≡ true)
+    → ((k : Key) → among sameKey k ks ≡ true → among sameKey k (keysOn s (bookOf p .changes)) ≡ true)
     → length ks ≤ maxKeys
 stored-few p s h l ks d m =
-    let n = pigeonhole sameKey key-sound key-mine ks (keysOn s (meaning p .changes)) d m in
+    let n = pigeonhole sameKey key-sound key-mine ks (keysOn s (bookOf p .changes)) d m in
     omega (arith, stored-kinds p s h l)
 
 -- so a table whose keys are among those takes the rule of each of these changes, and stays such a table
 pub stored-takes : (p : Playbook) (s : ℕ) (r : Rule) (es : List Entry) → storedOk p ≡ true → s < switchCount
-    → wellFormed r ≡ true → among sameKey (ruleKey r) (keysOn s (meaning p .changes)) ≡ true → Ordered es
-    → Within (keysOn s (meaning p .changes)) es → Takes (keysOn s (meaning p .changes)) r es
-stored-takes p s r es h l w m o v = takes (keysOn s (meaning p .changes)) r es (stored-kinds p s h l) w m o v
+    → wellFormed r ≡ true → among sameKey (ruleKey r) (keysOn s (bookOf p .changes)) ≡ true → Ordered es
+    → Within (keysOn s (bookOf p .changes)) es → Takes (keysOn s (bookOf p .changes)) r es
+stored-takes p s r es h l w m o v = takes (keysOn s (bookOf p .changes)) r es (stored-kinds p s h l) w m o v
 
 -- the key of a change is among those of its switch
 pub change-among : (cs : List Change) (i : ℕ) (z : Change) → i < length cs

@@ -1,6 +1,6 @@
 -- What reading looks at: it uses no more bytes than there are, and none past the longest playbook and one record.
 -- Assumes nothing.
-use mathlib.Core.Path.{_≡_, refl, sym, _∙_}
+use mathlib.Core.Path.{_≡_, refl, sym, ap, subst, _∙_}
 use mathlib.Core.Bool.{true}
 use mathlib.Core.List.{List, [], _∷_}
 use Prim.Native.Nat.{ℕ, zero, suc, _+_, _-_, _*_, _≤_, _<_}
@@ -13,17 +13,18 @@ use Rattle.answer.proofs.Asked.{reply-keeps, reply-same}
 use Rattle.answer.proofs.Bools.{by-bool, by-le}
 use Rattle.lists.specs.Bytes.{byteAt, field}
 use Rattle.lists.proofs.Stores.{part-within}
-use Rattle.playbook.specs.Limits.{planKind, changeKind, planSize, changeSize}
-use Rattle.playbook.specs.Books.{Book, noPlans, planQuestions, changeQuestions}
-use Rattle.playbook.specs.Records.{sizeOf, recordOf, recordAt}
-use Rattle.playbook.specs.Reading.{refusal, finished, follow, readFrom, readFirst}
+use Rattle.playbook.specs.Limits.{planKind, changeKind, planSize, changeSize, mostBytes}
+use Rattle.playbook.specs.Books.{Book, noPlans}
+use Rattle.playbook.specs.Records.{sizeOf}
+use Rattle.playbook.specs.Reading.{refusal, finished, readFrom, readFirst}
 use Rattle.playbook.specs.Storing.{bookOk}
+use Rattle.playbook.specs.Asking.{recordOf, recordAt, planQuestions, changeQuestions, follow}
 use Rattle.playbook.specs.declared.Outcome.{Outcome}
 use Rattle.playbook.specs.declared.Record.{Record}
 use Rattle.playbook.specs.declared.Record.the-variants.{Opens, Lists, Ends, Refused}
+use Rattle.playbook.proofs.Apart.{read-step}
 use Rattle.playbook.proofs.Kept.{book-parts, plan-kept, change-kept, none-ok}
 use Rattle.playbook.proofs.Sound.{count-length}
-use Rattle.playbook.proofs.Exact.{mostBytes}
 
 -- what holds of every refusal, of the end and of whatever is read on, holds of what a record does
 follow-any : (P : Outcome → Type 0) (r : Record) (b : Book) (end : Outcome) (on : ℕ → Book → Outcome)
@@ -40,8 +41,10 @@ unfolding readFrom
 used-from skip [] used b = omega arith
 used-from (suc skip) (x ∷ xs) used b = omega (arith, used-from skip xs (used + 1) b)
 used-from zero (x ∷ xs) used b =
-    follow-any (λ (r : Outcome). r .used ≤ used + length (x ∷ xs)) (recordAt (x ∷ xs)) b _ _ (λ k. omega arith)
-    (omega arith) (λ skip next. omega (arith, used-from skip xs (used + 1) next))
+    let Within : Outcome → Type 0 = λ r. r .used ≤ used + length (x ∷ xs) in
+    subst Within (sym (read-step x xs used b))
+    (follow-any Within (recordAt (x ∷ xs)) b _ _ (λ k. omega arith) (omega arith)
+    (λ skip next. omega (arith, used-from skip xs (used + 1) next)))
 
 pub read-used : (s : List ℕ) → readFirst s .used ≤ length s
 read-used s = omega (arith, used-from 0 s 0 noPlans)
@@ -115,10 +118,14 @@ front-from (suc skip) (x ∷ xs) used b (suc m) h enough =
 front-from zero (x ∷ xs) used b (suc m) h enough =
     let l = book-parts b (h .0) in
     let z : used + 0 ≡ used = omega arith in
-    rw (record-front (x ∷ xs) (suc m) (omega (arith, h .1, l .plans, l .changes)))
-    (follow-same (recordAt (x ∷ xs)) b used (finished (used + 1) b) _ _ (rw z at h)
+    let end = finished (used + 1) b in
+    let front = record-front (x ∷ xs) (suc m) (omega (arith, h .1, l .plans, l .changes)) in
+    read-step x (take m xs) used b
+    ∙ ap (λ (r : Record). follow r b end (λ skip next. readFrom skip (take m xs) (used + 1) next)) front
+    ∙ follow-same (recordAt (x ∷ xs)) b used end _ _ (rw z at h)
     (λ skip next k. let e : used + suc skip ≡ used + 1 + skip = omega arith in
-    front-from skip xs (used + 1) next m (rw e at k) (omega arith)))
+    front-from skip xs (used + 1) next m (rw e at k) (omega arith))
+    ∙ sym (read-step x xs used b)
 
 -- so bytes from there on make no difference
 pub read-front : (s : List ℕ) (m : ℕ) → mostBytes + changeSize ≤ m + 1 → readFirst (take m s) ≡ readFirst s

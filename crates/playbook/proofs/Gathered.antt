@@ -10,6 +10,7 @@ use lib.Dec.{leb, eqb}
 use lib.ListN.{length, take, drop, set, getD, replicate, length-set, length-append, getD-replicate}
 use lib.Seq.{take-suc-set, getD-set-same, getD-set-other}
 use borrow.Author.Tests.{eqb-true, eq-eqb, leb-true, le-leb, lt-leb}
+use Rattle.answer.specs.Limits.{switchCount}
 use Rattle.answer.proofs.Bools.{by-bool, by-eq, and-join, same-test}
 use Rattle.lists.specs.Arrays.{every}
 use Rattle.lists.specs.Kinds.{among, kinds}
@@ -17,9 +18,10 @@ use Rattle.lists.proofs.Members.{among-snoc, kinds-known, kinds-new, kinds-more
 use Rattle.lists.proofs.Tails.{every-at}
 use Rattle.flow.specs.Rules.{Key, ruleKey, sameKey}
 use Rattle.flow.proofs.Order.{key-sound}
-use Rattle.playbook.specs.Limits.{maxKeys, switchCount}
+use Rattle.playbook.specs.Limits.{maxKeys}
 use Rattle.playbook.specs.Books.{keysOn, kindsOn}
-use Rattle.playbook.specs.Storing.{fewKeysBelow, keyNumber, Counted}
+use Rattle.playbook.specs.Storing.{fewKeysBelow}
+use Rattle.playbook.specs.Gathering.{keyNumber, Counted}
 use Rattle.playbook.specs.declared.Change.{Change}
 use Rattle.playbook.proofs.Few.{keys-on, keys-off, few-all}
 

@@ -10,11 +10,12 @@ use lib.Dec.{eqb}
 use lib.ListN.{length, take, set, getD, replicate, length-set, length-take, length-drop, getD-replicate}
 use lib.Seq.{getD-set-same, getD-set-other, take-suc-set}
 use borrow.Author.Tests.{ne-eqb}
+use Rattle.answer.specs.Limits.{switchCount}
 use Rattle.answer.proofs.Bools.{by-eq, or-join}
 use Rattle.lists.specs.Kinds.{among}
 use Rattle.lists.proofs.Members.{among-snoc}
 use Rattle.lists.proofs.Stores.{set-grows}
-use Rattle.playbook.specs.Limits.{maxKeys, switchCount}
+use Rattle.playbook.specs.Limits.{maxKeys}
 use Rattle.playbook.proofs.Collected.{keyPlaces, part, part-own, part-other}
 
 abbrev hintCount : ℕ

@@ -1,17 +1,18 @@
 -- What the reader keeps: a plan or a change leaves a book within its limits exactly if it passes its questions, so what
 -- reading leaves, refused or not, is stored; and a stored store is what it means. Assumes nothing.
-use mathlib.Core.Path.{_≡_, refl, sym, ap, _∙_}
+use mathlib.Core.Path.{_≡_, refl, sym, ap, subst, _∙_}
 use mathlib.Core.List.{List, [], _∷_, _++_, map, map-append}
 use mathlib.Core.Bool.{Bool, true, false, not, _&&_, and-false}
 use Prim.Native.Nat.{ℕ, zero, suc, _+_, _≤_, _<_}
 use native.Mathlib.Omega.{arith}
 use lib.Dec.{ltb, leb, eqb}
 use lib.ListN.{length, drop, length-append}
-use borrow.Author.Tests.{ltb-true, leb-true, eqb-true, lt-ltb, le-leb}
-use Rattle.answer.specs.Ask.{firstNo}
-use Rattle.answer.proofs.Asked.{reply-keeps}
+use borrow.Author.Tests.{ltb-true, leb-true, eqb-true, eqb-false, lt-ltb, le-leb}
+use Rattle.answer.specs.Ask.{reply, firstNo}
+use Rattle.answer.specs.Limits.{switchCount}
+use Rattle.answer.proofs.Asked.{reply-from}
 use Rattle.answer.proofs.Bools.{by-bool, tf, and-join, and-parts, pick-keeps}
-use Rattle.lists.specs.Arrays.{everyTail, every}
+use Rattle.lists.specs.Arrays.{every}
 use Rattle.lists.specs.Kinds.{different, kinds}
 use Rattle.lists.proofs.Members.{different-snoc}
 use Rattle.lists.proofs.Padding.{pad-unused, as-padded}
@@ -19,20 +20,22 @@ use Rattle.lists.proofs.Tails.{every-snoc}
 use Rattle.flow.specs.Rules.{emptyRule}
 use Rattle.flow.proofs.Actions.{rule-sound}
 use Rattle.flow.proofs.Order.{key-sound, key-mine}
-use Rattle.playbook.specs.Limits.{maxPlans, maxChanges, maxKeys, switchCount, planSize, changeSize, endSize}
-use Rattle.playbook.specs.Books.{Book, noPlans, emptyPlan, emptyChange, meaning, storeOf}
+use Rattle.playbook.specs.Limits.{maxPlans, maxChanges, maxKeys, planSize, changeSize, endSize}
+use Rattle.playbook.specs.Books.{Book, noPlans, emptyPlan, emptyChange, bookOf, storeOf}
 use Rattle.playbook.specs.Books.{Trigger, triggerOf, sameTrigger, hasTrigger, keysOn, kindsOn}
-use Rattle.playbook.specs.Books.{countLast, withPlan, withChange, planQuestions, changeQuestions}
-use Rattle.playbook.specs.Reading.{refusal, finished, follow, readFrom, readFirst, whole, readWhole}
-use Rattle.playbook.specs.Records.{recordAt}
+use Rattle.playbook.specs.Books.{countLast, withPlan, withChange}
+use Rattle.playbook.specs.Reading.{refusal, finished, readFrom, readFirst, whole, readWhole}
 use Rattle.playbook.specs.Storing.{spans, changeOk, fewKeysBelow, bookOk, planEmpty, changeEmpty, storedOk}
+use Rattle.playbook.specs.Asking.{recordAt, planQuestions, changeQuestions, follow}
 use Rattle.playbook.specs.declared.Change.{Change}
 use Rattle.playbook.specs.declared.Outcome.{Outcome}
 use Rattle.playbook.specs.declared.Plan.{Plan}
 use Rattle.playbook.specs.declared.Playbook.{Playbook}
 use Rattle.playbook.specs.declared.Record.{Record}
 use Rattle.playbook.specs.declared.Record.the-variants.{Opens, Lists, Ends, Refused}
+use Rattle.playbook.proofs.Apart.{read-step}
 use Rattle.playbook.proofs.Few.{kinds-grow, few-below, few-all, few-change}
+use Rattle.playbook.proofs.Past.{Numbered, record-number}
 use Rattle.playbook.proofs.Questions.{plan-passes, plan-asked, change-passes, change-asked}
 use Rattle.playbook.proofs.Sound.{Fits, Sound, meaning-store, count-length}
 use Rattle.playbook.proofs.Spans.{span-some, span-plan, span-plan-back, span-change, span-change-back}
@@ -67,7 +70,7 @@ book-join b h = rw (le-leb _ _ (h .plans), le-leb _ _ (h .changes), h .spanned, 
 pub record StoredParts (p : Playbook) : Type 0 where
   pub planned : p .planned ≤ maxPlans
   pub listed : p .listed ≤ maxChanges
-  pub book : bookOk (meaning p) ≡ true
+  pub book : bookOk (bookOf p) ≡ true
   pub plans-unused : every planEmpty (drop (p .planned) (p .plans)) ≡ true
   pub changes-unused : every changeEmpty (drop (p .listed) (p .changes)) ≡ true
 
@@ -83,11 +86,11 @@ stored-parts p h =
       changes-unused = part _ (λ e. rw (e, and-false));
     }
 
-pub stored-limits : (p : Playbook) → storedOk p ≡ true → BookParts (meaning p)
-stored-limits p h = book-parts (meaning p) (stored-parts p h .book)
+pub stored-limits : (p : Playbook) → storedOk p ≡ true → BookParts (bookOf p)
+stored-limits p h = book-parts (bookOf p) (stored-parts p h .book)
 
 -- the store of a book within its limits
-book-fits : (b : Book) → bookOk b ≡ true → Fits b
+pub book-fits : (b : Book) → bookOk b ≡ true → Fits b
 book-fits b h = let l = book-parts b h in record { plans = l .plans; changes = l .changes }
 
 pub book-stored : (b : Book) → bookOk b ≡ true → storedOk (storeOf b) ≡ true
@@ -242,60 +245,72 @@ change-back b c h =
 
 -- the empty book
 pub none-ok : bookOk noPlans ≡ true
-unfolding bookOk spans different everyTail fewKeysBelow keysOn kinds
+unfolding bookOk spans different every fewKeysBelow keysOn kinds
 none-ok = refl
 
--- reading, by what is so of the bytes passed and the book so far, and of the record at each place: what every refusal
--- has, and every end that the book leads to, every reading has
-module _ (P : Outcome → Type 0) (SoFar : ℕ → Book → Type 0) (Says : Record → Type 0)
-    (refuses : (k : ℕ) → P (refusal k))
-    (ends : (used : ℕ) (b : Book) → SoFar used b → P (finished (used + endSize) b))
-    (opens : (used : ℕ) (b : Book) (t : Trigger) → SoFar used b → firstNo (planQuestions b t) ≡ 0
-    → SoFar (used + planSize) (withPlan b t))
-    (lists : (used : ℕ) (b : Book) (c : Change) → SoFar used b → Says (Lists c) → firstNo (changeQuestions b c) ≡ 0
-    → SoFar (used + changeSize) (withChange b c)) where
-  follow-keeps : (r : Record) (used : ℕ) (b : Book) (on : ℕ → Book → Outcome) → Says r → SoFar used b
-      → ((skip : ℕ) (next : Book) → SoFar (used + suc skip) next → P (on skip next))
+-- reading, by what is so of the bytes passed and the book so far, and of each place and the record there: what every
+-- refusal has, and every end that the book leads to, every reading has
+module _ (P : Outcome → Type 0) (SoFar : ℕ → Book → Type 0) (Says : ℕ → Record → Type 0)
+    (refuses : (k : ℕ) → 1 ≤ k → P (refusal k))
+    (ends : (used : ℕ) (b : Book) → SoFar used b → Says used Ends → P (finished (used + endSize) b))
+    (opens : (used : ℕ) (b : Book) (t : Trigger) → SoFar used b → Says used (Opens (t .0) (t .1))
+    → firstNo (planQuestions b t) ≡ 0 → SoFar (used + planSize) (withPlan b t))
+    (lists : (used : ℕ) (b : Book) (c : Change) → SoFar used b → Says used (Lists c)
+    → firstNo (changeQuestions b c) ≡ 0 → SoFar (used + changeSize) (withChange b c)) where
+  follow-keeps : (r : Record) (used : ℕ) (b : Book) (on : ℕ → Book → Outcome) → Numbered r → Says used r
+      → SoFar used b → ((skip : ℕ) (next : Book) → SoFar (used + suc skip) next → P (on skip next))
       → P (follow r b (finished (used + endSize) b) on)
-  follow-keeps (Refused k) used b on says h f = refuses k
-  follow-keeps Ends used b on says h f = ends used b h
-  follow-keeps (Opens s c) used b on says h f =
-      reply-keeps P (planQuestions b (s, c)) refusal _ refuses (λ pass. f _ _ (opens used b (s, c) h pass))
-  follow-keeps (Lists c) used b on says h f =
-      reply-keeps P (changeQuestions b c) refusal _ refuses (λ pass. f _ _ (lists used b c h says pass))
+  follow-keeps (Refused k) used b on n says h f = refuses k n
+  follow-keeps Ends used b on n says h f = ends used b h says
+  follow-keeps (Opens s c) used b on n says h f =
+      reply-from P 1 (planQuestions b (s, c)) refusal _ refl refuses (λ pass. f _ _ (opens used b (s, c) h says pass))
+  follow-keeps (Lists c) used b on n says h f =
+      reply-from P 1 (changeQuestions b c) refusal _ refl refuses (λ pass. f _ _ (lists used b c h says pass))
 
-  pub read-keeps : (skip : ℕ) (s : List ℕ) (used : ℕ) (b : Book) → ((i : ℕ) → Says (recordAt (drop i s)))
-      → SoFar (used + skip) b → P (readFrom skip s used b)
+  pub read-keeps : (skip : ℕ) (s : List ℕ) (used : ℕ) (b : Book)
+      → ((i : ℕ) → Says (used + i) (recordAt (drop i s))) → SoFar (used + skip) b → P (readFrom skip s used b)
   unfolding readFrom
-  read-keeps skip [] used b says h = refuses 30
+  read-keeps skip [] used b says h = refuses 30 (omega arith)
   read-keeps (suc skip) (x ∷ xs) used b says h =
-      let e : used + suc skip ≡ used + 1 + skip = omega arith in
-      read-keeps skip xs (used + 1) b (λ i. says (suc i)) (rw e at h)
+      let e : (k : ℕ) → used + suc k ≡ used + 1 + k = λ k. omega arith in
+      read-keeps skip xs (used + 1) b (λ i. rw (e i) at (says (suc i))) (rw (e skip) at h)
   read-keeps zero (x ∷ xs) used b says h =
       let z : used + 0 ≡ used = omega arith in
-      follow-keeps (recordAt (x ∷ xs)) used b _ (says 0) (rw z at h)
-      (λ skip next k. let e : used + suc skip ≡ used + 1 + skip = omega arith in
-      read-keeps skip xs (used + 1) next (λ i. says (suc i)) (rw e at k))
+      let e : (k : ℕ) → used + suc k ≡ used + 1 + k = λ k. omega arith in
+      subst P (sym (read-step x xs used b))
+      (follow-keeps (recordAt (x ∷ xs)) used b _ (record-number (x ∷ xs)) (rw z at (says 0)) (rw z at h)
+      (λ skip next k. read-keeps skip xs (used + 1) next (λ i. rw (e i) at (says (suc i))) (rw (e skip) at k)))
 
 -- and so has every reading of all bytes
-pub whole-keeps : (P : Outcome → Type 0) → ((k : ℕ) → P (refusal k)) → (n : ℕ) (r : Outcome) → P r → P (whole n r)
+pub whole-keeps : (P : Outcome → Type 0) → ((k : ℕ) → 1 ≤ k → P (refusal k)) → (n : ℕ) (r : Outcome) → P r
+    → P (whole n r)
 whole-keeps P refuses n r h =
     pick-keeps P (eqb (r .answer) 0) _ r
-    (λ e. reply-keeps P ((38, eqb (r .used) n) ∷ []) refusal r refuses (λ pass. h)) (λ e. h)
+    (λ e. reply-from P 1 ((38, eqb (r .used) n) ∷ []) refusal r refl refuses (λ pass. h)) (λ e. h)
+
+-- bytes that are read whole are read as a beginning, and this uses all of them
+pub whole-first : (n : ℕ) (r : Outcome) → whole n r .answer ≡ 0 → (whole n r ≡ r) × (r .used ≡ n)
+unfolding reply
+whole-first n r h =
+    by-bool (eqb (r .answer) 0)
+    (λ e. by-bool (eqb (r .used) n) (λ u. (rw (e, u), eqb-true (r .used) n u))
+    (λ u. let left : whole n r ≡ refusal 38 = rw (e, u) in
+    absurd (omega (arith, h, ap (λ (o : Outcome). o .answer) left))))
+    (λ e. absurd (eqb-false (r .answer) 0 e (rw e at h)))
 
 -- a store that reading leaves
 abbrev Left : Outcome → Type 0
 Left r = storedOk (r .playbook) ≡ true
 
-refusal-left : (k : ℕ) → Left (refusal k)
-refusal-left k = book-stored noPlans none-ok
+refusal-left : (k : ℕ) → 1 ≤ k → Left (refusal k)
+refusal-left k n = book-stored noPlans none-ok
 
 -- so every reading leaves a stored playbook, refused or not
 pub read-first-stored : (s : List ℕ) → storedOk (readFirst s .playbook) ≡ true
 read-first-stored s =
-    read-keeps Left (λ used b. bookOk b ≡ true) (λ r. Unit {0}) refusal-left (λ used b h. book-stored b h)
-    (λ used b t h pass. plan-kept b t h pass) (λ used b c h says pass. change-kept b c h pass) 0 s 0 noPlans (λ i. tt)
-    none-ok
+    read-keeps Left (λ used b. bookOk b ≡ true) (λ at r. Unit {0}) refusal-left (λ used b h says. book-stored b h)
+    (λ used b t h says pass. plan-kept b t h pass) (λ used b c h says pass. change-kept b c h pass) 0 s 0 noPlans
+    (λ i. tt) none-ok
 
 pub read-stored : (s : List ℕ) → storedOk (readWhole s .playbook) ≡ true
 read-stored s = whole-keeps Left refusal-left (length s) (readFirst s) (read-first-stored s)

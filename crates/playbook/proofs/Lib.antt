@@ -1,5 +1,6 @@
 -- Laws of playbooks. Marked to Arms are for this crate alone.
 pub mod Sound
+pub mod Apart
 pub mod Questions
 pub mod Spans
 pub mod Few
@@ -9,6 +10,8 @@ pub mod Printed
 pub mod Exact
 pub mod Front
 pub mod Ranges
+pub mod Refusals
+pub mod OneForm
 mod Marked
 mod Walked
 mod Gathered

@@ -9,11 +9,11 @@ use lib.Dec.{eqb}
 use lib.ListN.{length, take, set, getD, replicate, length-set, getD-replicate, take-append-drop}
 use lib.Seq.{getD-set-same, getD-set-other}
 use borrow.Author.Tests.{eqb-true, eq-eqb}
+use Rattle.answer.specs.Limits.{switchCount}
 use Rattle.answer.proofs.Bools.{by-bool, tf, and-join, or-left}
 use Rattle.lists.specs.Kinds.{among, different}
 use Rattle.lists.proofs.Members.{among-append, among-snoc, different-snoc}
 use Rattle.lists.proofs.Stores.{take-next}
-use Rattle.playbook.specs.Limits.{switchCount}
 use Rattle.playbook.specs.Books.{Trigger, triggerOf, sameTrigger, hasTrigger}
 use Rattle.playbook.specs.declared.Plan.{Plan}
 use Rattle.playbook.proofs.Kept.{trigger-sound, trigger-mine}

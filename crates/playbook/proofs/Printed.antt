@@ -13,7 +13,7 @@ use borrow.Author.Tests.{ltb-true, eq-eqb}
 use Rattle.answer.proofs.Asked.{asked, none-asked, all-yes}
 use Rattle.answer.proofs.Bools.{and-parts}
 use Rattle.answer.specs.Ask.{firstNo}
-use Rattle.lists.specs.Arrays.{everyTail, every}
+use Rattle.lists.specs.Arrays.{every}
 use Rattle.lists.specs.Bytes.{be, field}
 use Rattle.lists.proofs.Numbers.{num-be}
 use Rattle.lists.proofs.Tails.{every-take, every-drop}
@@ -21,12 +21,11 @@ use Rattle.flow.specs.Rules.{ruleKey, prefixOk, wellFormed, portOf, ruleOf}
 use Rattle.flow.proofs.Actions.{port-rule}
 use Rattle.playbook.specs.Limits.{maxPlans, maxChanges, planKind, changeKind, endKind}
 use Rattle.playbook.specs.Limits.{planSize, changeSize, endSize}
-use Rattle.playbook.specs.Books.{Book, meaning, Trigger, triggerOf, counted, newPlan, withPlan, withChange}
-use Rattle.playbook.specs.Books.{planQuestions, changeQuestions}
+use Rattle.playbook.specs.Books.{Book, bookOf, Trigger, triggerOf, counted, newPlan, withPlan, withChange}
 use Rattle.playbook.specs.Printing.{changeBytes, changesBytes, plansBytes, bytesOf, ruleInRange, InRange}
 use Rattle.playbook.specs.Reading.{refusal, finished, readFrom, readFirst, whole, readWhole}
-use Rattle.playbook.specs.Records.{recordAt}
 use Rattle.playbook.specs.Storing.{spans, bookOk, storedOk}
+use Rattle.playbook.specs.Asking.{recordAt, planQuestions, changeQuestions}
 use Rattle.playbook.specs.declared.Change.{Change}
 use Rattle.playbook.specs.declared.Plan.{Plan}
 use Rattle.playbook.specs.declared.Playbook.{Playbook}
@@ -78,18 +77,19 @@ unfolding changesBytes be
 printed-changes [] rest = omega arith
 printed-changes (c ∷ cs) rest = omega (arith, printed-changes cs rest)
 
-printed-plans : (qs : List Plan) (cs : List Change) (from : ℕ) → spans from (from + length cs) qs ≡ true
-    → length (plansBytes qs cs) ≡ planSize * length qs + changeSize * length cs + endSize
+printed-plans : (qs : List Plan) (cs : List Change) (rest : List ℕ) (from : ℕ)
+    → spans from (from + length cs) qs ≡ true
+    → length (plansBytes qs cs rest) ≡ planSize * length qs + changeSize * length cs + length rest
 unfolding plansBytes
-printed-plans [] cs from h = omega (arith, span-none from (from + length cs) h)
-printed-plans (q ∷ qs) cs from h =
+printed-plans [] cs rest from h = omega (arith, span-none from (from + length cs) h)
+printed-plans (q ∷ qs) cs rest from h =
     let s = span-parts from (from + length cs) q qs h in
     let le = span-le (from + q .count) (from + length cs) qs (s .rest) in
     let own : length (take (q .count) cs) ≡ q .count = length-take-le _ cs (omega arith) in
     let others : length (drop (q .count) cs) ≡ length cs - q .count = length-drop _ cs in
     let end : from + length cs ≡ from + q .count + length (drop (q .count) cs) = omega arith in
-    let ih = printed-plans qs (drop (q .count) cs) (from + q .count) (rw end at (s .rest)) in
-    omega (arith, printed-changes (take (q .count) cs) (plansBytes qs (drop (q .count) cs)))
+    let ih = printed-plans qs (drop (q .count) cs) rest (from + q .count) (rw end at (s .rest)) in
+    omega (arith, printed-changes (take (q .count) cs) (plansBytes qs (drop (q .count) cs) rest))
 
 abbrev book : List Plan → List Change → Book
 book qs cs = record { plans = qs; changes = cs }
@@ -121,7 +121,7 @@ module _ (all : List ℕ) where
   reach-changes : (es : List Change) (rest : List ℕ) (used : ℕ) (ps : List Plan) (q : Plan) (cs : List Change)
       → every ruleInRange es ≡ true → Reached (changesBytes es rest) used (book (ps ++ q ∷ []) cs)
       → Reached rest (used + changeSize * length es) (book (ps ++ sized q (q .count + length es) ∷ []) (cs ++ es))
-  unfolding changesBytes everyTail
+  unfolding changesBytes every
   reach-changes [] rest used ps q cs r h =
       let n : q .count ≡ q .count + 0 = omega arith in
       same rest (omega arith) (ap (λ (m : ℕ). ps ++ sized q m ∷ []) n) (sym (append-nil cs)) h
@@ -134,55 +134,55 @@ module _ (all : List ℕ) where
       same rest (omega arith) (ap (λ (m : ℕ). ps ++ sized q m ∷ []) n) (append-assoc cs (c ∷ []) es) others
 
   -- the plans qs with the changes ds
-  reach-plans : (qs : List Plan) (ds : List Change) (used : ℕ) (ps : List Plan) (cs : List Change)
+  reach-plans : (qs : List Plan) (ds : List Change) (rest : List ℕ) (used : ℕ) (ps : List Plan) (cs : List Change)
       → spans (length cs) (length cs + length ds) qs ≡ true → every ruleInRange ds ≡ true
-      → Reached (plansBytes qs ds) used (book ps cs)
-      → Reached (endKind ∷ []) (used + planSize * length qs + changeSize * length ds) (book (ps ++ qs) (cs ++ ds))
+      → Reached (plansBytes qs ds rest) used (book ps cs)
+      → Reached rest (used + planSize * length qs + changeSize * length ds) (book (ps ++ qs) (cs ++ ds))
   unfolding plansBytes
-  reach-plans [] [] used ps cs s r h = same _ (omega arith) (sym (append-nil ps)) (sym (append-nil cs)) h
-  reach-plans [] (d ∷ ds) used ps cs s r h = absurd (omega (arith, span-none _ _ s))
-  reach-plans (q ∷ qs) ds used ps cs s r h =
+  reach-plans [] [] rest used ps cs s r h = same _ (omega arith) (sym (append-nil ps)) (sym (append-nil cs)) h
+  reach-plans [] (d ∷ ds) rest used ps cs s r h = absurd (omega (arith, span-none _ _ s))
+  reach-plans (q ∷ qs) ds rest used ps cs s r h =
       let l = span-parts (length cs) (length cs + length ds) q qs s in
       let le = span-le (length cs + q .count) (length cs + length ds) qs (l .rest) in
       let es = take (q .count) ds in
       let fs = drop (q .count) ds in
       let own : length es ≡ q .count = length-take-le _ ds (omega arith) in
-      let others : length fs ≡ length ds - q .count = length-drop _ ds in
+      let behind : length fs ≡ length ds - q .count = length-drop _ ds in
       let join = length-append cs es in
-      let opened = reach-plan (triggerOf q) (changesBytes es (plansBytes qs fs)) used (book ps cs) h in
-      let listed = reach-changes es (plansBytes qs fs) (used + planSize) ps (newPlan (triggerOf q) (length cs)) cs
+      let opened = reach-plan (triggerOf q) (changesBytes es (plansBytes qs fs rest)) used (book ps cs) h in
+      let listed = reach-changes es (plansBytes qs fs rest) (used + planSize) ps (newPlan (triggerOf q) (length cs)) cs
       (every-take ruleInRange (q .count) ds r) opened in
       let count : 0 + length es ≡ q .count = omega arith in
       let made : sized (newPlan (triggerOf q) (length cs)) (0 + length es) ≡ q =
       λ i. record { switch = q .switch; cause = q .cause; first = sym (l .start) i; count = count i } in
       let more : spans (length (cs ++ es)) (length (cs ++ es) + length fs) qs ≡ true =
       ap₂ (λ (x y : ℕ). spans x y qs) (omega arith) (omega arith) ∙ l .rest in
-      let rest = reach-plans qs fs (used + planSize + changeSize * length es) (ps ++ q ∷ []) (cs ++ es) more
+      let others = reach-plans qs fs rest (used + planSize + changeSize * length es) (ps ++ q ∷ []) (cs ++ es) more
       (every-drop ruleInRange (q .count) ds r)
-      (same (plansBytes qs fs) refl (ap (λ (p : Plan). ps ++ p ∷ []) made) refl listed) in
-      same (endKind ∷ []) (omega arith) (append-assoc ps (q ∷ []) qs)
-      (append-assoc cs es fs ∙ ap (λ (l : List Change). cs ++ l) (take-append-drop (q .count) ds)) rest
+      (same (plansBytes qs fs rest) refl (ap (λ (p : Plan). ps ++ p ∷ []) made) refl listed) in
+      same rest (omega arith) (append-assoc ps (q ∷ []) qs)
+      (append-assoc cs es fs ∙ ap (λ (l : List Change). cs ++ l) (take-append-drop (q .count) ds)) others
 
 module _ (p : Playbook) (h : storedOk p ≡ true) where
   -- the plans' changes, from the first to the last
-  all-spanned : spans 0 (0 + length (meaning p .changes)) (meaning p .plans) ≡ true
+  all-spanned : spans 0 (0 + length (bookOf p .changes)) (bookOf p .plans) ≡ true
   all-spanned =
-      let z : 0 + length (meaning p .changes) ≡ length (meaning p .changes) = omega arith in
+      let z : 0 + length (bookOf p .changes) ≡ length (bookOf p .changes) = omega arith in
       rw z (stored-limits p h .spanned)
 
   pub printed-length : length (bytesOf p)
-      ≡ planSize * length (meaning p .plans) + changeSize * length (meaning p .changes) + endSize
-  printed-length = printed-plans (meaning p .plans) (meaning p .changes) 0 all-spanned
+      ≡ planSize * length (bookOf p .plans) + changeSize * length (bookOf p .changes) + endSize
+  printed-length = printed-plans (bookOf p .plans) (bookOf p .changes) (endKind ∷ []) 0 all-spanned
 
-  -- the reader gives back what was printed: its meaning, and in the store the playbook itself
-  pub print-first : InRange p → readFirst (bytesOf p) ≡ finished (length (bytesOf p)) (meaning p)
+  -- the reader gives back what was printed: its bookOf, and in the store the playbook itself
+  pub print-first : InRange p → readFirst (bytesOf p) ≡ finished (length (bytesOf p)) (bookOf p)
   print-first r =
       let n = printed-length in
-      let used = 0 + planSize * length (meaning p .plans) + changeSize * length (meaning p .changes) in
+      let used = 0 + planSize * length (bookOf p .plans) + changeSize * length (bookOf p .changes) in
       let e : used + 1 ≡ length (bytesOf p) = omega arith in
-      reach-plans (bytesOf p) (meaning p .plans) (meaning p .changes) 0 [] [] all-spanned r (λ ok. refl)
+      reach-plans (bytesOf p) (bookOf p .plans) (bookOf p .changes) (endKind ∷ []) 0 [] [] all-spanned r (λ ok. refl)
       (stored-parts p h .book)
-      ∙ past-end used (meaning p) ∙ ap (λ (v : ℕ). finished v (meaning p)) e
+      ∙ past-end used (bookOf p) ∙ ap (λ (v : ℕ). finished v (bookOf p)) e
 
 pub print-read : (p : Playbook) → length (p .plans) ≡ maxPlans → length (p .changes) ≡ maxChanges → storedOk p ≡ true
     → InRange p → readWhole (bytesOf p) ≡ record { answer = 0; used = length (bytesOf p); playbook = p }

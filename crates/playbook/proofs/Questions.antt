@@ -8,11 +8,13 @@ use lib.Dec.{ltb}
 use lib.ListN.{length}
 use borrow.Author.Tests.{ltb-true, leb-true, lt-ltb, le-leb}
 use Rattle.answer.specs.Ask.{reply, firstNo}
+use Rattle.answer.specs.Limits.{switchCount}
 use Rattle.answer.proofs.Asked.{asked, none-asked, answered}
-use Rattle.answer.proofs.Bools.{and-join, and-parts}
+use Rattle.answer.proofs.Bools.{and-parts}
 use Rattle.flow.specs.Rules.{wellFormed}
-use Rattle.playbook.specs.Limits.{maxPlans, maxChanges, maxOfPlan, maxKeys, switchCount}
-use Rattle.playbook.specs.Books.{Book, Trigger, hasTrigger, kindsOn, lastCount, planQuestions, changeQuestions}
+use Rattle.playbook.specs.Limits.{maxPlans, maxChanges, maxOfPlan, maxKeys}
+use Rattle.playbook.specs.Books.{Book, Trigger, hasTrigger, kindsOn, lastCount}
+use Rattle.playbook.specs.Asking.{planQuestions, changeQuestions}
 use Rattle.playbook.specs.declared.Change.{Change}
 
 pub record PlanPasses (b : Book) (t : Trigger) : Type 0 where

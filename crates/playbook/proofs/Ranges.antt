@@ -8,7 +8,7 @@ use native.Mathlib.Omega.{arith}
 use lib.ListN.{length, drop}
 use borrow.Author.Tests.{lt-ltb}
 use Rattle.answer.proofs.Bools.{and-join}
-use Rattle.lists.specs.Arrays.{everyTail, every}
+use Rattle.lists.specs.Arrays.{every}
 use Rattle.lists.specs.Bytes.{field, AreBytes}
 use Rattle.lists.proofs.Numbers.{bytes-drop, field-range}
 use Rattle.lists.proofs.Padding.{pad-take}
@@ -18,8 +18,9 @@ use Rattle.playbook.specs.Limits.{maxChanges, changeSize}
 use Rattle.playbook.specs.Books.{emptyChange, noPlans}
 use Rattle.playbook.specs.Printing.{ruleInRange, InRange}
 use Rattle.playbook.specs.Reading.{refusal, readFirst, readWhole}
-use Rattle.playbook.specs.Records.{changeOf, recordAt}
+use Rattle.playbook.specs.Records.{changeOf}
 use Rattle.playbook.specs.Storing.{bookOk}
+use Rattle.playbook.specs.Asking.{recordAt}
 use Rattle.playbook.specs.declared.Outcome.{Outcome}
 use Rattle.playbook.specs.declared.Record.{Record}
 use Rattle.playbook.specs.declared.Record.the-variants.{Opens, Lists, Ends, Refused}
@@ -41,24 +42,25 @@ module _ (s : List ℕ) (bytes : AreBytes s) where
       (rw (action-port (field s 8 2)) (lt-ltb _ _ (field-range s 8 2 bytes (omega arith))))
 
   record-range : recordInRange (recordAt s) ≡ true
-  record-range = record-keeps (λ r. recordInRange r ≡ true) s (λ k. refl) (λ h. refl) change-range (λ h. refl)
+  record-range = record-keeps (λ r. recordInRange r ≡ true) s (λ k n. refl) (λ k h. refl) (λ k h. change-range h)
+      (λ k h. refl)
 
 -- and what reading leaves has only such rules
 abbrev Ranged : Outcome → Type 0
 Ranged r = InRange (r .playbook)
 
-refusal-range : (k : ℕ) → Ranged (refusal k)
-unfolding everyTail
-refusal-range k = refl
+refusal-range : (k : ℕ) → 1 ≤ k → Ranged (refusal k)
+unfolding every
+refusal-range k n = refl
 
 read-first-range : (s : List ℕ) → AreBytes s → Ranged (readFirst s)
-unfolding everyTail
+unfolding every
 read-first-range s bytes =
     read-keeps Ranged (λ used b. (bookOk b ≡ true) × (every ruleInRange (b .changes) ≡ true))
-    (λ r. recordInRange r ≡ true) refusal-range
-    (λ used b h. ap (every ruleInRange) (pad-take maxChanges emptyChange (b .changes) (book-parts b (h .0) .changes))
-    ∙ h .1)
-    (λ used b t h pass. (plan-kept b t (h .0) pass, h .1))
+    (λ at r. recordInRange r ≡ true) refusal-range
+    (λ used b h says.
+    ap (every ruleInRange) (pad-take maxChanges emptyChange (b .changes) (book-parts b (h .0) .changes)) ∙ h .1)
+    (λ used b t h says pass. (plan-kept b t (h .0) pass, h .1))
     (λ used b c h says pass.
     (change-kept b c (h .0) pass, every-snoc ruleInRange (b .changes) c ∙ and-join _ _ (h .1) says))
     0 s 0 noPlans (λ i. record-range (drop i s) (bytes-drop i s bytes)) (none-ok, refl)

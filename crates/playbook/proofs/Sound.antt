@@ -7,7 +7,7 @@ use native.Mathlib.Omega.{arith}
 use lib.ListN.{length, set, getD, length-take}
 use Rattle.lists.proofs.Padding.{pad-length, pad-take}
 use Rattle.playbook.specs.Limits.{maxPlans, maxChanges}
-use Rattle.playbook.specs.Books.{Book, emptyPlan, emptyChange, meaning, storeOf, lastCount, counted, countLast}
+use Rattle.playbook.specs.Books.{Book, emptyPlan, emptyChange, bookOf, storeOf, lastCount, counted, countLast}
 use Rattle.playbook.specs.declared.Plan.{Plan}
 use Rattle.playbook.specs.declared.Playbook.{Playbook}
 
@@ -18,22 +18,22 @@ pub record Fits (b : Book) : Type 0 where
 
 -- a store that is what it means
 abbrev pub Sound : Playbook → Type 0
-Sound p = p ≡ storeOf (meaning p)
+Sound p = p ≡ storeOf (bookOf p)
 
-pub meaning-store : (b : Book) → Fits b → meaning (storeOf b) ≡ b
+pub meaning-store : (b : Book) → Fits b → bookOf (storeOf b) ≡ b
 meaning-store b h = λ i. record {
   plans = pad-take maxPlans emptyPlan (b .plans) (h .plans) i;
   changes = pad-take maxChanges emptyChange (b .changes) (h .changes) i;
 }
 
 -- the same of a store that is told to be a book's: what it means, and that it is sound
-pub means : (p : Playbook) (b : Book) → p ≡ storeOf b → Fits b → meaning p ≡ b
-means p b e f = ap meaning e ∙ meaning-store b f
+pub means : (p : Playbook) (b : Book) → p ≡ storeOf b → Fits b → bookOf p ≡ b
+means p b e f = ap bookOf e ∙ meaning-store b f
 
 pub is-sound : (p : Playbook) (b : Book) → p ≡ storeOf b → Fits b → Sound p
 is-sound p b e f = e ∙ ap storeOf (sym (means p b e f))
 
-pub sound-fits : (p : Playbook) → Sound p → Fits (meaning p)
+pub sound-fits : (p : Playbook) → Sound p → Fits (bookOf p)
 sound-fits p e =
     let n : length (p .plans) ≡ maxPlans =
     ap (λ (q : Playbook). length (q .plans)) e ∙ pad-length maxPlans emptyPlan _ in
@@ -45,10 +45,10 @@ sound-fits p e =
     }
 
 -- the counts of a sound store
-pub sound-planned : (p : Playbook) → Sound p → p .planned ≡ length (meaning p .plans)
+pub sound-planned : (p : Playbook) → Sound p → p .planned ≡ length (bookOf p .plans)
 sound-planned p e = ap (λ (q : Playbook). q .planned) e
 
-pub sound-listed : (p : Playbook) → Sound p → p .listed ≡ length (meaning p .changes)
+pub sound-listed : (p : Playbook) → Sound p → p .listed ≡ length (bookOf p .changes)
 sound-listed p e = ap (λ (q : Playbook). q .listed) e
 
 -- one change more of the last plan, which stands behind others

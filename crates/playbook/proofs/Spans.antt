@@ -8,8 +8,9 @@ use native.Mathlib.Omega.{arith}
 use lib.Dec.{ltb, leb, eqb}
 use lib.ListN.{length}
 use borrow.Author.Tests.{ltb-true, leb-true, eqb-true, lt-ltb, le-leb, eq-eqb}
+use Rattle.answer.specs.Limits.{switchCount}
 use Rattle.answer.proofs.Bools.{by-bool, and-parts}
-use Rattle.playbook.specs.Limits.{maxOfPlan, switchCount}
+use Rattle.playbook.specs.Limits.{maxOfPlan}
 use Rattle.playbook.specs.Books.{Trigger, triggerOf, sameTrigger, newPlan, lastCount, countLast}
 use Rattle.playbook.specs.Storing.{spans}
 use Rattle.playbook.specs.Plans.{planOf}

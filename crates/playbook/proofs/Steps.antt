@@ -10,8 +10,9 @@ use Rattle.answer.specs.Ask.{firstNo}
 use Rattle.lists.specs.Arrays.{pad}
 use Rattle.lists.proofs.Padding.{pad-snoc, pad-get, pad-set}
 use Rattle.playbook.specs.Limits.{maxPlans, maxChanges}
-use Rattle.playbook.specs.Books.{Book, emptyPlan, meaning, storeOf, Trigger, lastCount, counted, countLast}
-use Rattle.playbook.specs.Books.{newPlan, withPlan, withChange, planQuestions, changeQuestions}
+use Rattle.playbook.specs.Books.{Book, emptyPlan, bookOf, storeOf, Trigger, lastCount, counted, countLast}
+use Rattle.playbook.specs.Books.{newPlan, withPlan, withChange}
+use Rattle.playbook.specs.Asking.{planQuestions, changeQuestions}
 use Rattle.playbook.specs.declared.Change.{Change}
 use Rattle.playbook.specs.declared.Plan.{Plan}
 use Rattle.playbook.specs.declared.Playbook.{Playbook}
@@ -56,21 +57,21 @@ change-stored : (b : Book) (c : Change) → Fits b → 0 < length (b .plans)
 change-stored b c f h = rw (last-stored (b .plans) h (f .plans), pad-snoc, length-append, count-length)
 
 -- the same of every sound store
-pub plan-more : (p : Playbook) (t : Trigger) → Sound p → planStored p t ≡ storeOf (withPlan (meaning p) t)
-plan-more p t e = ap (λ (q : Playbook). planStored q t) e ∙ plan-stored (meaning p) t
+pub plan-more : (p : Playbook) (t : Trigger) → Sound p → planStored p t ≡ storeOf (withPlan (bookOf p) t)
+plan-more p t e = ap (λ (q : Playbook). planStored q t) e ∙ plan-stored (bookOf p) t
 
 pub change-more : (p : Playbook) (c : Change) → Sound p → 0 < p .planned
-    → changeStored p c ≡ storeOf (withChange (meaning p) c)
+    → changeStored p c ≡ storeOf (withChange (bookOf p) c)
 change-more p c e h =
     ap (λ (q : Playbook). changeStored q c) e
-    ∙ change-stored (meaning p) c (sound-fits p e) (rw (← sound-planned p e) h)
+    ∙ change-stored (bookOf p) c (sound-fits p e) (rw (← sound-planned p e) h)
 
 -- how many changes the last plan has, read from the store
 pub last-count : (p : Playbook) → Sound p → 0 < p .planned
-    → lastCount (meaning p .plans) ≡ getD (p .plans) (p .planned - 1) emptyPlan .count
+    → lastCount (bookOf p .plans) ≡ getD (p .plans) (p .planned - 1) emptyPlan .count
 last-count p e h =
-    let some : 0 < length (meaning p .plans) = rw (← sound-planned p e) h in
-    last-at (meaning p .plans) some
+    let some : 0 < length (bookOf p .plans) = rw (← sound-planned p e) h in
+    last-at (bookOf p .plans) some
     ∙ rw (← sound-planned p e, getD-take (p .planned) (p .plans) (p .planned - 1) emptyPlan (omega arith))
 
 -- how many plans a sound store has

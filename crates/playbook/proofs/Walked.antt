@@ -9,10 +9,11 @@ use lib.Dec.{ltb, leb, eqb}
 use lib.ListN.{length, take, drop, set, getD, replicate, drop-of-length-le}
 use lib.Seq.{take-all}
 use borrow.Author.Tests.{ltb-true, leb-true}
+use Rattle.answer.specs.Limits.{switchCount}
 use Rattle.answer.proofs.Bools.{and-parts}
 use Rattle.lists.specs.Kinds as kinds
 use Rattle.lists.proofs.Stores.{rest, take-next}
-use Rattle.playbook.specs.Limits.{maxOfPlan, switchCount}
+use Rattle.playbook.specs.Limits.{maxOfPlan}
 use Rattle.playbook.specs.Books.{emptyPlan, triggerOf}
 use Rattle.playbook.specs.Storing.{spans}
 use Rattle.playbook.specs.declared.Plan.{Plan}

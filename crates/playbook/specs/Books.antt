@@ -1,19 +1,17 @@
--- A playbook as lists, the store that holds it, and what a plan and a change do to it (document 01, "Bytes" and the
--- playbook's questions). Assumes nothing.
+-- A playbook as lists, the store that holds it, and what a plan and a change do to it (document 01, "Bytes").
 use Prim.Native.Nat.{ℕ, _+_}
-use mathlib.Core.Bool.{Bool, not, _&&_}
+use mathlib.Core.Bool.{Bool, _&&_}
 use mathlib.Core.List.{List, [], _∷_, _++_, map}
 use lib.ListN.{length, take}
-use lib.Dec.{ltb, leb, eqb}
-use Rattle.answer.specs.Ask.{Question, pick, reply}
+use lib.Dec.{ltb, eqb}
+use Rattle.answer.specs.Ask.{pick}
 use Rattle.lists.specs.Arrays.{pad}
 use Rattle.lists.specs.Kinds.{among, kinds}
-use Rattle.flow.specs.Rules.{Key, ruleKey, sameKey, wellFormed, emptyRule}
-use Rattle.playbook.specs.Limits.{maxPlans, maxChanges, maxOfPlan, maxKeys, switchCount}
+use Rattle.flow.specs.Rules.{Key, ruleKey, sameKey, emptyRule}
+use Rattle.playbook.specs.Limits.{maxPlans, maxChanges, maxOfPlan}
 use Rattle.playbook.specs.declared.Change.{Change}
 use Rattle.playbook.specs.declared.Plan.{Plan}
 use Rattle.playbook.specs.declared.Playbook.{Playbook}
-use Rattle.playbook.specs.declared.Taken.{Taken}
 
 -- the plans, and all their changes one after another
 pub record Book : Type 0 where
@@ -31,8 +29,8 @@ abbrev pub emptyChange : Change
 emptyChange = record { flow = 0; switch = 0; rule = emptyRule }
 
 -- the plans and changes in use, and the store with these, zero past them
-abbrev pub meaning : Playbook → Book
-meaning p = record { plans = take (p .planned) (p .plans); changes = take (p .listed) (p .changes) }
+abbrev pub bookOf : Playbook → Book
+bookOf p = record { plans = take (p .planned) (p .plans); changes = take (p .listed) (p .changes) }
 
 abbrev pub storeOf : Book → Playbook
 storeOf b = record {
@@ -92,30 +90,9 @@ withPlan b t = record { plans = b .plans ++ newPlan t (length (b .changes)) ∷ 
 abbrev pub withChange : Book → Change → Book
 withChange b c = record { plans = countLast (b .plans); changes = b .changes ++ c ∷ [] }
 
--- the questions of a plan and of a change, once their bytes are there; 36 and 37 ask what would be after the record
-abbrev pub planQuestions : Book → Trigger → List Question
-planQuestions b t =
-    (12, ltb (t .0) switchCount)
-    ∷ (35, not (hasTrigger t (b .plans)))
-    ∷ (36, ltb (length (b .plans)) maxPlans)
-    ∷ []
+-- room for a plan more, and for a change more of the last plan
+abbrev pub planRoom : Book → Bool
+planRoom b = ltb (length (b .plans)) maxPlans
 
-abbrev pub changeQuestions : Book → Change → List Question
-changeQuestions b c =
-    (12, ltb (c .switch) switchCount)
-    ∷ (34, ltb 0 (length (b .plans)))
-    ∷ (15, wellFormed (c .rule))
-    ∷ (36, ltb (length (b .changes)) maxChanges && ltb (lastCount (b .plans)) maxOfPlan)
-    ∷ (37, leb (kindsOn (c .switch) (b .changes ++ c ∷ [])) maxKeys)
-    ∷ []
-
--- what a plan and a change do to the store of a book
-abbrev pub taken : List Question → Book → Book → Taken
-taken qs b next =
-    reply qs (λ k. record { answer = k; playbook = storeOf b }) (record { answer = 0; playbook = storeOf next })
-
-abbrev pub openPlan : Book → Trigger → Taken
-openPlan b t = taken (planQuestions b t) b (withPlan b t)
-
-abbrev pub listChange : Book → Change → Taken
-listChange b c = taken (changeQuestions b c) b (withChange b c)
+abbrev pub changeRoom : Book → Bool
+changeRoom b = ltb (length (b .changes)) maxChanges && ltb (lastCount (b .plans)) maxOfPlan

@@ -1,4 +1,5 @@
--- The playbook's store, its records, what reading does, which stores it leaves, and the plan of a trigger.
+-- The playbook's store, its records, what reading does, which stores it leaves, and the plan of a trigger. Printing is
+-- for laws, Asking and Gathering are for inner functions.
 pub mod Limits
 pub mod Books
 pub mod Records
@@ -6,3 +7,5 @@ pub mod Reading
 pub mod Storing
 pub mod Printing
 pub mod Plans
+pub mod Asking
+pub mod Gathering

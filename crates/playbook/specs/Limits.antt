@@ -1,6 +1,6 @@
 -- How much a playbook may hold (document 01, "Bytes" and questions 36 and 37), and its records' kinds and sizes; all of
 -- them stand here. Assumes nothing.
-use Prim.Native.Nat.{ℕ}
+use Prim.Native.Nat.{ℕ, _+_, _*_}
 
 abbrev pub maxPlans : ℕ
 maxPlans = 64
@@ -15,18 +15,15 @@ maxOfPlan = 32
 abbrev pub maxKeys : ℕ
 maxKeys = 64
 
-abbrev pub switchCount : ℕ
-switchCount = 16
-
 -- kinds of records
 abbrev pub planKind : ℕ
-planKind = 17
+planKind = 0x11
 
 abbrev pub changeKind : ℕ
-changeKind = 18
+changeKind = 0x12
 
 abbrev pub endKind : ℕ
-endKind = 19
+endKind = 0x13
 
 -- bytes of a record, its kind among them
 abbrev pub planSize : ℕ
@@ -37,3 +34,7 @@ changeSize = 10
 
 abbrev pub endSize : ℕ
 endSize = 1
+
+-- bytes of the longest playbook: 5,313
+abbrev pub mostBytes : ℕ
+mostBytes = planSize * maxPlans + changeSize * maxChanges + endSize

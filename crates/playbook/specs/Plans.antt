@@ -2,7 +2,7 @@
 use mathlib.Core.List.{List, [], _∷_}
 use lib.ListN.{take, drop}
 use Rattle.answer.specs.Ask.{pick}
-use Rattle.playbook.specs.Books.{Trigger, triggerOf, sameTrigger, newPlan, meaning}
+use Rattle.playbook.specs.Books.{Trigger, triggerOf, sameTrigger, newPlan, bookOf}
 use Rattle.playbook.specs.declared.Change.{Change}
 use Rattle.playbook.specs.declared.Plan.{Plan}
 use Rattle.playbook.specs.declared.Playbook.{Playbook}
@@ -17,4 +17,4 @@ abbrev pub changesOf : Plan → List Change → List Change
 changesOf q cs = take (q .count) (drop (q .first) cs)
 
 abbrev pub changesFor : Playbook → Trigger → List Change
-changesFor p t = changesOf (planOf t (meaning p .plans)) (meaning p .changes)
+changesFor p t = changesOf (planOf t (bookOf p .plans)) (bookOf p .changes)

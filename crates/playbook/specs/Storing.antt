@@ -1,15 +1,15 @@
 -- A store such as the reader stores (document 01, question 20). Assumes nothing.
-use mathlib.Core.Path.{_≡_}
-use Prim.Native.Nat.{ℕ, zero, suc, _+_, _*_, _<_}
+use Prim.Native.Nat.{ℕ, zero, suc, _+_}
 use mathlib.Core.Bool.{Bool, true, _&&_}
 use mathlib.Core.List.{List, [], _∷_, map}
-use lib.ListN.{length, getD, drop}
+use lib.ListN.{length, drop}
 use lib.Dec.{ltb, leb, eqb}
+use Rattle.answer.specs.Limits.{switchCount}
 use Rattle.lists.specs.Arrays.{every}
 use Rattle.lists.specs.Kinds.{different}
-use Rattle.flow.specs.Rules.{Key, wellFormed, ruleEmpty}
-use Rattle.playbook.specs.Limits.{maxPlans, maxChanges, maxOfPlan, maxKeys, switchCount}
-use Rattle.playbook.specs.Books.{Book, meaning, triggerOf, sameTrigger, keysOn, kindsOn}
+use Rattle.flow.specs.Rules.{wellFormed, ruleEmpty}
+use Rattle.playbook.specs.Limits.{maxPlans, maxChanges, maxOfPlan, maxKeys}
+use Rattle.playbook.specs.Books.{Book, bookOf, triggerOf, sameTrigger, kindsOn}
 use Rattle.playbook.specs.declared.Change.{Change}
 use Rattle.playbook.specs.declared.Plan.{Plan}
 use Rattle.playbook.specs.declared.Playbook.{Playbook}
@@ -49,14 +49,6 @@ unfoldable pub storedOk : Playbook → Bool
 storedOk p =
     leb (p .planned) maxPlans
     && leb (p .listed) maxChanges
-    && bookOk (meaning p)
+    && bookOk (bookOf p)
     && every planEmpty (drop (p .planned) (p .plans))
     && every changeEmpty (drop (p .listed) (p .changes))
-
--- The rest is what the functions below stored say: a prefix and its length as one number, and how many changes each
--- switch has.
-abbrev pub keyNumber : Key → ℕ
-keyNumber k = k .0 * 256 + k .1
-
-abbrev pub Counted : List ℕ → List Change → Type 0
-Counted counts cs = (s : ℕ) → s < switchCount → getD counts s 0 ≡ length (keysOn s cs)

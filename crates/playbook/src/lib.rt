@@ -6,7 +6,7 @@ use flow::Rule;
 mod books;
 mod changes;
 mod keys;
-mod limits;
+pub mod limits;
 mod plans;
 mod reading;
 mod records;
@@ -54,11 +54,4 @@ pub(crate) enum Record {
     Lists(Change),
     Ends,
     Refused(u8),
-}
-
-// What a record does to a playbook: 0 and the changed playbook, or a question's number and the playbook as it was. Only
-// the definitions name it: the reader writes into the store where it stands.
-pub(crate) struct Taken {
-    pub(crate) answer: u8,
-    pub(crate) playbook: Playbook,
 }

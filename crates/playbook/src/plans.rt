@@ -1,8 +1,8 @@
 // Triggers, and the plan of a switch and cause.
 ghost use mathlib.Core.Path.{_≡_};
 ghost use Prim.Native.Nat.{_+_, _*_, _<_};
-ghost use Rattle.playbook.specs.Limits.{switchCount};
-ghost use Rattle.playbook.specs.Books.{meaning, triggerOf, sameTrigger, newPlan};
+ghost use Rattle.answer.specs.Limits.{switchCount};
+ghost use Rattle.playbook.specs.Books.{bookOf, triggerOf, sameTrigger, newPlan};
 ghost use Rattle.playbook.specs.Plans.{planOf};
 use crate::Plan;
 use crate::Playbook;
@@ -40,7 +40,7 @@ pub(crate) fn new_plan(switch: u8, cause: u8, first: usize) -> Plan
 
 // The plan of a switch and cause; without one, a plan with no changes. Of every store, the plans in use are looked at.
 pub fn plan_of(p: Playbook, switch: u8, cause: u8) -> Plan
-    ensures { λ r. ⌜ r ≡ planOf (switch, cause) (meaning p .plans) ⌝ }
+    ensures { λ r. ⌜ r ≡ planOf (switch, cause) (bookOf p .plans) ⌝ }
 {
     let plans = p.plans;
     let n = p.planned;

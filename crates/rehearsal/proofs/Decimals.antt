@@ -9,7 +9,8 @@ use lib.Arith.{mod-mul}
 use lib.ListN.{length, getD}
 use borrow.Author.Tests.{eq-eqb, ne-eqb}
 use Rattle.answer.proofs.Bools.{by-eq}
-use Rattle.rehearsal.specs.Lines.{digits, stripped, valueOf, decimal}
+use Rattle.rehearsal.specs.Lines.{digits, stripped, decimal}
+use Rattle.rehearsal.specs.Storing.{valueOf}
 
 pub length-digits : (k x : ℕ) → length (digits k x) ≡ k
 unfolding digits

@@ -1,4 +1,4 @@
--- An input before its script: which question stops it, and what follows where none does. Assumes nothing.
+-- An input before its script: which question stops it, and what follows where none does.
 use mathlib.Core.Path.{_≡_, refl, sym, ap, _∙_}
 use mathlib.Core.Bool.{Bool, true, false, _&&_}
 use mathlib.Core.List.{List, [], _∷_}
@@ -6,20 +6,25 @@ use Prim.Native.Nat.{ℕ, _+_, _-_, _≤_, _<_}
 use native.Mathlib.Omega.{arith}
 use borrow.Author.Tests.{leb-true, lt-ltb, le-ltb, le-leb, lt-leb, eq-eqb, ne-eqb, eqb-false, ltb-true}
 use lib.Dec.{leb, ltb, eqb}
-use lib.ListN.{length, take, drop, length-drop}
+use lib.ListN.{length, take, drop, replicate, length-drop}
 use lib.Seq.{drop-drop}
 use Rattle.answer.specs.Ask.{reply}
 use Rattle.answer.proofs.Bools.{and-parts}
 use Rattle.answer.proofs.Asked.{none-asked, refused, asked}
+use Rattle.lists.proofs.Padding.{pad-none}
 use Rattle.lists.proofs.Stores.{lent-rest}
 use Rattle.playbook.specs.Reading.{readFirst}
 use Rattle.playbook.specs.declared.Outcome.{Outcome}
 use Rattle.playbook.proofs.Front.{read-used}
 use Rattle.rehearsal.specs.Worlds.{worldOf}
-use Rattle.rehearsal.specs.Scripts.{controllersIn, bookIn, scriptIn, inputQuestions, linesFrom, linesOf, lineOf}
-use Rattle.rehearsal.specs.Scripts.{notBegun, worldIn, begunOf}
+use Rattle.rehearsal.specs.Scripts.{controllersIn, bookIn, scriptIn, inputQuestions}
+use Rattle.rehearsal.specs.Scripts.{worldIn}
+use Rattle.rehearsal.specs.Storing.{notBegun, begunOf}
+use Rattle.rehearsal.specs.Deeds.{brokenDeed, deedsFrom, toldBy, toldOf}
 use Rattle.rehearsal.specs.declared.Begun.{Begun}
-use Rattle.rehearsal.specs.declared.Line.{Line}
+use Rattle.rehearsal.specs.declared.Deed.{Deed}
+use Rattle.rehearsal.specs.declared.Dropped.{Dropped}
+use Rattle.rehearsal.specs.declared.Told.{Told}
 use Rattle.rehearsal.specs.declared.World.{World}
 
 -- `begin` by its branches: each is a question of the input
@@ -89,44 +94,48 @@ both P f g x y k true true false s other refuses passes = refuses k (other refl)
 both P f g x y k true true true false other refuses passes = refuses 28 (λ e. omega arith)
 both P f g x y k true true true true other refuses passes = passes refl refl refl
 
--- what an input has begun, beside its lines
-beside : (P : Begun → List Line → Type 0) (input : List ℕ)
-    → ((k : ℕ) → (k ≡ 0 → ⊥) → P (notBegun k) (lineOf 0 k 0 ∷ []))
+-- two things that the questions of an input are asked for
+pub beside : {A B : Type 0} (P : A → B → Type 0) (input : List ℕ) (f : ℕ → A) (x : A) (g : ℕ → B) (y : B)
+    → ((k : ℕ) → (k ≡ 0 → ⊥) → P (f k) (g k))
     → (ltb 0 (length input) ≡ true → (leb 1 (controllersIn input) && leb (controllersIn input) 16) ≡ true
-    → leb (length (scriptIn input)) 8192 ≡ true
-    → P (record { answer = 0; script = 1 + bookIn input .used; world = worldIn input })
-    (linesFrom 0 (scriptIn input) 1 (worldIn input)))
-    → P (begunOf input) (linesOf input)
-unfolding begunOf linesOf
-beside P input refuses passes =
-    both P notBegun (λ q. lineOf 0 q 0 ∷ []) _ _ (bookIn input .answer) (ltb 0 (length input))
+    → leb (length (scriptIn input)) 8192 ≡ true → P x y)
+    → P (reply (inputQuestions input) f x) (reply (inputQuestions input) g y)
+beside P input f x g y refuses passes =
+    both P f g x y (bookIn input .answer) (ltb 0 (length input))
     (leb 1 (controllersIn input) && leb (controllersIn input) 16) (eqb (bookIn input .answer) 0)
     (leb (length (scriptIn input)) 8192) (λ e. eqb-false (bookIn input .answer) 0 e) refuses passes
 
--- an input that was refused has the line of its fault
-pub fault-line : (input : List ℕ) {b : Begun} → b ≡ begunOf input → (b .answer ≡ 0 → ⊥)
-    → lineOf 0 (b .answer) 0 ∷ [] ≡ linesOf input
-fault-line input {b} is =
+-- an input that was refused has no deeds
+pub fault-told : (d : Dropped) (input : List ℕ) {b : Begun} → b ≡ begunOf input → (none : List Deed)
+    → none ≡ replicate 4096 (brokenDeed 0) → (b .answer ≡ 0 → ⊥)
+    → record { answer = b .answer; deeds = none; count = 0; world = b .world } ≡ toldOf d input
+unfolding begunOf toldOf
+fault-told d input {b} is none e =
     rw is
-    (beside (λ (b : Begun) (ls : List Line). (b .answer ≡ 0 → ⊥) → lineOf 0 (b .answer) 0 ∷ [] ≡ ls) input
-    (λ k other no. refl) (λ some few short no. absurd (no refl)))
+    (beside
+    (λ (b : Begun) (t : Told). (b .answer ≡ 0 → ⊥)
+    → record { answer = b .answer; deeds = none; count = 0; world = b .world } ≡ t)
+    input _ _ _ _ (λ k other no. rw (e, pad-none 4096 (brokenDeed 0))) (λ some few short no. absurd (no refl)))
 
--- one that was not has its script's lines, from its world
-pub record Ready (input : List ℕ) (b : Begun) (ls : List Line) : Type 0 where
+-- one that was not has its script's deeds, from its world
+pub record Ready (d : Dropped) (input : List ℕ) (b : Begun) (t : Told) : Type 0 where
   pub few : b .world .n ≤ 16
   pub within : b .script ≤ length input
   pub short : length (drop (b .script) input) ≤ 8192
-  pub lines : linesFrom 0 (drop (b .script) input) 1 (b .world) ≡ ls
+  pub told : toldBy 0 (deedsFrom d 0 (drop (b .script) input) (b .world)) ≡ t
 
-pub ready : (input : List ℕ) {b : Begun} → b ≡ begunOf input → b .answer ≡ 0 → Ready input b (linesOf input)
-ready input {b} is =
+pub ready : (d : Dropped) (input : List ℕ) {b : Begun} → b ≡ begunOf input → b .answer ≡ 0
+    → Ready d input b (toldOf d input)
+unfolding begunOf toldOf
+ready d input {b} is =
     rw is
-    (beside (λ (b : Begun) (ls : List Line). b .answer ≡ 0 → Ready input b ls) input (λ k other yes. absurd (other yes))
+    (beside (λ (b : Begun) (t : Told). b .answer ≡ 0 → Ready d input b t) input _ _ _ _
+    (λ k other yes. absurd (other yes))
     (λ some few short yes.
     let at : drop (1 + bookIn input .used) input ≡ scriptIn input = sym (drop-drop (bookIn input .used) 1 input) in
     record {
       few = leb-true (controllersIn input) 16 (and-parts (leb 1 (controllersIn input)) _ few .1);
       within = omega (arith, ltb-true 0 (length input) some, read-used (drop 1 input), length-drop 1 input);
       short = rw at (leb-true (length (scriptIn input)) 8192 short);
-      lines = rw at;
+      told = rw at;
     }))

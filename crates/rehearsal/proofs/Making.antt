@@ -10,7 +10,7 @@ use lib.Seq.{take-all, take-append-le}
 use Rattle.answer.specs.Ask.{pick}
 use Rattle.answer.proofs.Bools.{by-le}
 use Rattle.lists.specs.Arrays.{pad}
-use Rattle.message.specs.Keys.{joined}
+use Rattle.message.specs.Keys.{keyOf, joined}
 use Rattle.message.specs.Layout.{shareLength, acknowledgementLength}
 use Rattle.message.specs.Writing.{placed}
 use Rattle.message.proofs.Stores.{joined-length}
@@ -24,7 +24,7 @@ use Rattle.controller.specs.Writing.{shareWritten}
 use Rattle.controller.specs.declared.Reply as controller
 use Rattle.controller.specs.declared.Controller.{Controller}
 use Rattle.controller.proofs.Sent.{frame-is}
-use Rattle.rehearsal.specs.Worlds.{keyOf, switchKeys, controllerKeys, longestShare, stored}
+use Rattle.rehearsal.specs.Worlds.{switchKeys, controllerKeys, longestShare, stored}
 use Rattle.rehearsal.specs.Steps.{delivered, shareMade, reported}
 use Rattle.rehearsal.proofs.Shares.{currentShare, writing, written-length}
 

@@ -1,4 +1,4 @@
--- How much a rehearsal prints: at most 4,096 lines, and 135,168 bytes. Assumes nothing.
+-- How much a rehearsal prints: at most so many lines and bytes.
 use mathlib.Core.Path.{_≡_, refl, ap, _∙_}
 use mathlib.Core.Bool.{Bool, true, false}
 use mathlib.Core.List.{List, [], _∷_, _++_}
@@ -11,12 +11,15 @@ use Rattle.answer.specs.Ask.{reply}
 use Rattle.answer.proofs.Asked.{reply-keeps, none-asked, refused, asked}
 use Rattle.answer.proofs.Bools.{by-bool}
 use Rattle.lists.proofs.Padding.{pad-take}
-use Rattle.rehearsal.specs.Lines.{text, meaning, printed}
+use Rattle.rehearsal.specs.Limits.{mostPrinted}
+use Rattle.rehearsal.specs.Lines.{text, printed}
+use Rattle.rehearsal.specs.Storing.{linesIn}
 use Rattle.rehearsal.specs.Worlds.{worldOf}
 use Rattle.rehearsal.specs.Records.{sizeOf, recordAt}
 use Rattle.rehearsal.specs.Effects.{placeOf, recordQuestions, worldAfter}
 use Rattle.rehearsal.specs.Scripts.{nextLines, linesFrom}
-use Rattle.rehearsal.specs.Scripts.{controllersIn, bookIn, scriptIn, linesOf, rehearsed, noLine, linesStored}
+use Rattle.rehearsal.specs.Scripts.{controllersIn, bookIn, scriptIn, linesOf, rehearsed}
+use Rattle.rehearsal.specs.Storing.{noLine, linesStored}
 use Rattle.rehearsal.specs.declared.Line.{Line}
 use Rattle.rehearsal.specs.declared.Next.{Next}
 use Rattle.rehearsal.specs.declared.Next.the-variants.{Found, Refused}
@@ -38,7 +41,7 @@ next-few w k (Found r) b on some fits few =
     (λ q. omega (arith, few (sizeOf (r .kind) - 1) w)) (λ pass.
     omega (arith, few (sizeOf (r .kind) - 1) (worldAfter w r (take (sizeOf (r .kind)) b))))
 
-lines-few : (skip : ℕ) (s : List ℕ) (k : ℕ) (w : World) → Few (length s - skip) (linesFrom skip s k w)
+pub lines-few : (skip : ℕ) (s : List ℕ) (k : ℕ) (w : World) → Few (length s - skip) (linesFrom skip s k w)
 unfolding linesFrom
 lines-few skip [] k w = omega arith
 lines-few (suc skip) (x ∷ s) k w = omega (arith, lines-few skip s k w)
@@ -68,11 +71,11 @@ few-lines input =
     omega (arith, lines-few 0 (scriptIn input) 1 world, leb-true (length (scriptIn input)) 8192 short))
 
 -- the lines that are stored
-pub meaning-stored : (ls : List Line) → length ls ≤ 4096 → meaning (linesStored ls) ≡ ls
+pub meaning-stored : (ls : List Line) → length ls ≤ 4096 → linesIn (linesStored ls) ≡ ls
 meaning-stored ls few = pad-take 4096 noLine ls few
 
--- so an output of 135,168 bytes is long enough for every input
-pub room-for-all : (input : List ℕ) → length (text (linesOf input)) ≤ 135168
+-- so an output with that room is long enough for every input
+pub room-for-all : (input : List ℕ) → length (text (linesOf input)) ≤ mostPrinted
 room-for-all input = omega (arith, text-short (linesOf input), few-lines input)
 
 -- what is printed stands within its output, and in one of that length it stands whole
@@ -89,7 +92,7 @@ printed-within bytes out =
     ap (λ (r : Printed × List ℕ). r .0 .length) (refused _ _ 25 _ _ short) in
     omega arith)
 
-pub printed-whole : (input out : List ℕ) → 135168 ≤ length out
+pub printed-whole : (input out : List ℕ) → mostPrinted ≤ length out
     → rehearsed input out
     ≡ (
       record { answer = 0; length = length (text (linesOf input)) },

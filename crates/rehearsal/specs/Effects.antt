@@ -5,12 +5,14 @@ use mathlib.Core.Bool.{_&&_}
 use mathlib.Core.List.{List, [], _∷_}
 use lib.ListN.{getD, set}
 use lib.Dec.{ltb}
+use Rattle.answer.specs.Limits.{switchCount}
 use Rattle.answer.specs.Ask.{Question}
 use Rattle.playbook.specs.Books.{noPlans, storeOf}
 use Rattle.switch.specs.States as switches
 use Rattle.switch.specs.declared.Switch.{Switch}
 use Rattle.controller.specs.States as controllers
 use Rattle.controller.specs.declared.Controller.{Controller}
+use Rattle.rehearsal.specs.Limits.{placeCount}
 use Rattle.rehearsal.specs.Worlds.{emptyPlace}
 use Rattle.rehearsal.specs.Steps.{carriedOut}
 use Rattle.rehearsal.specs.declared.Kind.{Kind}
@@ -44,9 +46,9 @@ switchOf Deliver r p = p .switch
 -- has not passes as 0
 abbrev pub recordQuestions : ℕ → Record → Place → List Question
 recordQuestions n r p =
-    (12, ltb (r .controller) n && ltb (r .switch) 16)
-    ∷ (29, ltb (r .place) 64)
-    ∷ (26, ltb (switchOf (r .kind) r p) 16)
+    (12, ltb (r .controller) n && ltb (r .switch) switchCount)
+    ∷ (29, ltb (r .place) placeCount)
+    ∷ (26, ltb (switchOf (r .kind) r p) switchCount)
     ∷ []
 
 -- the controller, the switch and the place with these numbers put into a world

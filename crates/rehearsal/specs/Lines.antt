@@ -1,11 +1,10 @@
--- The lines of a rehearsal and their bytes (document 01, "Rehearsal program"). Assumes nothing.
-use Prim.Native.Nat.{ℕ, zero, suc, _+_, _-_, _*_, _/_, _%_, _^_}
+-- The lines of a rehearsal and their bytes (document 01, "Rehearsal program").
+use Prim.Native.Nat.{ℕ, zero, suc, _+_, _/_, _%_, _^_}
 use mathlib.Core.List.{List, [], _∷_, _++_}
-use lib.ListN.{length, take, drop}
+use lib.ListN.{length, drop}
 use lib.Dec.{eqb, leb}
 use Rattle.answer.specs.Ask.{pick, reply}
 use Rattle.rehearsal.specs.declared.Line.{Line}
-use Rattle.rehearsal.specs.declared.Lines.{Lines}
 use Rattle.rehearsal.specs.declared.Printed.{Printed}
 
 -- the last k decimal digits of a number, in ASCII
@@ -19,11 +18,6 @@ stripped [] = []
 stripped (d ∷ []) = d ∷ []
 stripped (d ∷ e ∷ ds) = pick (eqb d 48) (stripped (e ∷ ds)) (d ∷ e ∷ ds)
 
--- the number that digits in ASCII are
-unfoldable pub valueOf : List ℕ → ℕ
-valueOf [] = 0
-valueOf (d ∷ ds) = (d - 48) * 10 ^ length ds + valueOf ds
-
 -- a number of at most ten digits as text
 abbrev pub decimal : ℕ → List ℕ
 decimal x = stripped (digits 10 x)
@@ -36,10 +30,6 @@ textOf l = decimal (l .ordinal) ++ 32 ∷ decimal (l .answer) ++ 32 ∷ decimal 
 unfoldable pub text : List Line → List ℕ
 text [] = []
 text (l ∷ ls) = textOf l ++ text ls
-
--- the lines that are in use
-abbrev pub meaning : Lines → List Line
-meaning ls = take (ls .count) (ls .places)
 
 -- bytes printed from the start of an output; one that is too short gets 25, and no byte of it is written
 unfoldable pub printed : List ℕ → List ℕ → Printed × List ℕ

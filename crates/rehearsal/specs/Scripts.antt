@@ -1,22 +1,20 @@
--- A script carried out record after record, and the whole input (document 01, "Rehearsal program"). Assumes nothing.
+-- A script carried out record after record, and the whole input (document 01, "Rehearsal program").
 use Prim.Native.Nat.{ℕ, zero, suc, _+_, _-_}
 use mathlib.Core.Bool.{_&&_}
 use mathlib.Core.List.{List, [], _∷_}
 use lib.ListN.{length, take, drop}
 use lib.Dec.{ltb, leb, eqb}
+use Rattle.answer.specs.Limits.{mostControllers}
 use Rattle.answer.specs.Ask.{Question, reply}
-use Rattle.lists.specs.Arrays.{pad}
 use Rattle.lists.specs.Bytes.{byteAt}
-use Rattle.playbook.specs.Books.{noPlans, storeOf}
 use Rattle.playbook.specs.Reading.{readFirst}
 use Rattle.playbook.specs.declared.Outcome.{Outcome}
+use Rattle.rehearsal.specs.Limits.{longestScript}
 use Rattle.rehearsal.specs.Lines.{text, printed}
 use Rattle.rehearsal.specs.Worlds.{worldOf}
 use Rattle.rehearsal.specs.Records.{sizeOf, recordAt}
 use Rattle.rehearsal.specs.Effects.{placeOf, recordQuestions, carriedIn, worldAfter}
-use Rattle.rehearsal.specs.declared.Begun.{Begun}
 use Rattle.rehearsal.specs.declared.Line.{Line}
-use Rattle.rehearsal.specs.declared.Lines.{Lines}
 use Rattle.rehearsal.specs.declared.Next.{Next}
 use Rattle.rehearsal.specs.declared.Next.the-variants.{Found, Refused}
 use Rattle.rehearsal.specs.declared.Printed.{Printed}
@@ -61,22 +59,14 @@ scriptIn input = drop (bookIn input .used) (drop 1 input)
 abbrev pub inputQuestions : List ℕ → List Question
 inputQuestions input =
     (30, ltb 0 (length input))
-    ∷ (20, leb 1 (controllersIn input) && leb (controllersIn input) 16)
+    ∷ (20, leb 1 (controllersIn input) && leb (controllersIn input) mostControllers)
     ∷ (bookIn input .answer, eqb (bookIn input .answer) 0)
-    ∷ (28, leb (length (scriptIn input)) 8192)
+    ∷ (28, leb (length (scriptIn input)) longestScript)
     ∷ []
 
--- what it is before its script: the world, and where the script begins
-abbrev pub notBegun : ℕ → Begun
-notBegun q = record { answer = q; script = 0; world = worldOf 0 (storeOf noPlans) }
-
+-- the world before its script
 abbrev pub worldIn : List ℕ → World
 worldIn input = worldOf (controllersIn input) (bookIn input .playbook)
-
-unfoldable pub begunOf : List ℕ → Begun
-begunOf input =
-    reply (inputQuestions input) notBegun
-    (record { answer = 0; script = 1 + bookIn input .used; world = worldIn input })
 
 -- its lines; a fault before the script is the only one
 unfoldable pub linesOf : List ℕ → List Line
@@ -87,10 +77,3 @@ linesOf input =
 -- the rehearsal of an input, printed to an output
 abbrev pub rehearsed : List ℕ → List ℕ → Printed × List ℕ
 rehearsed input out = printed (text (linesOf input)) out
-
--- lines in the places of an array
-abbrev pub noLine : Line
-noLine = lineOf 0 0 0
-
-abbrev pub linesStored : List Line → Lines
-linesStored ls = record { places = pad 4096 noLine ls; count = length ls }

@@ -2,10 +2,10 @@
 -- the ends' own definitions: a share or an acknowledgement is made in a frame of its own, which alters no state, and
 -- delivered.
 use Prim.Native.Nat.{ℕ}
-use mathlib.Core.List.{List, [], _∷_}
+use mathlib.Core.List.{List, []}
 use lib.ListN.{length, replicate, drop}
-use lib.Dec.{eqb, leb}
-use Rattle.answer.specs.Ask.{pick, reply}
+use lib.Dec.{eqb}
+use Rattle.answer.specs.Ask.{pick}
 use Rattle.message.specs.Keys.{keyAt}
 use Rattle.message.specs.Layout.{acknowledgementLength}
 use Rattle.message.specs.Writing.{encode}
@@ -89,10 +89,6 @@ module _ (c : Controller) (s : Switch) (p : Place) where
     place = kept m to p;
   }
 
-  -- nothing moved, and the figure is 0
-  abbrev pub unmoved : ℕ → Moved
-  unmoved q = record { answer = q; figure = 0; controller = c; switch = s; place = p }
-
   -- a record carried out, with its bytes and what it names
   unfoldable pub carriedOut : ℕ → Kind → Record → List ℕ → Moved
   carriedOut n Decide r bytes = byController (decidedBy c (r .switch) (r .serial) (r .cause))
@@ -101,8 +97,3 @@ module _ (c : Controller) (s : Switch) (p : Place) where
   carriedOut n Raw r bytes = bySwitch (delivered n s (r .switch) (drop 2 bytes))
   carriedOut n Keep r bytes = byPlace (shareMade c (r .controller) (r .switch)) (r .switch)
   carriedOut n Deliver r bytes = bySwitch (delivered n s (p .switch) (bytesOf (p .share)))
-
-  -- the same of all numbers and bytes: at most sixteen controllers? Two bytes of the record, or more?
-  abbrev pub performed : ℕ → Record → List ℕ → Moved
-  performed n r bytes =
-      reply ((20, leb n 16) ∷ (30, leb 2 (length bytes)) ∷ []) unmoved (carriedOut n (r .kind) r bytes)

@@ -2,14 +2,15 @@
 ghost use mathlib.Core.Path.{_≡_};
 ghost use mathlib.Core.Bool.{_&&_};
 ghost use lib.Dec.{leb};
-ghost use Rattle.rehearsal.specs.Scripts.{notBegun, begunOf};
+ghost use Rattle.answer.specs.Limits.{mostControllers};
+ghost use Rattle.rehearsal.specs.Storing.{notBegun, begunOf};
 use crate::Begun;
 use crate::limits;
 use crate::worlds::world_of;
 
 // Whether a domain can have so many controllers.
 fn n_ok(n: u8) -> bool
-    ensures { λ r. ⌜ r ≡ (leb 1 n && leb n 16) ⌝ }
+    ensures { λ r. ⌜ r ≡ (leb 1 n && leb n mostControllers) ⌝ }
 {
     if n == 0 {
         return false;
@@ -30,7 +31,7 @@ fn not_begun(answer: u8) -> Begun
 }
 
 // The world before an input's script, and where in the input the script begins.
-pub fn begin(input: &[u8]) -> Begun
+pub(crate) fn begin(input: &[u8]) -> Begun
     ensures { λ r. ⌜ r ≡ begunOf (now (input .entry)) ⌝ }
 {
     if input.len() == 0 {

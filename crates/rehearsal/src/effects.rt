@@ -11,7 +11,7 @@ use crate::limits;
 use crate::worlds::empty_place;
 
 // The place with a number, or an empty one where there is none.
-pub fn place_at(places: [Place; limits::PLACES], place: u8) -> Place
+pub(crate) fn place_at(places: [Place; limits::PLACES], place: u8) -> Place
     ensures { λ r. ⌜ r ≡ getD places place emptyPlace ⌝ }
 {
     if limits::PLACES <= place as usize {
@@ -22,7 +22,7 @@ pub fn place_at(places: [Place; limits::PLACES], place: u8) -> Place
 }
 
 // The number of the switch that a record is about: a kept share has its own.
-pub fn switch_of(r: Record, place: Place) -> u8
+pub(crate) fn switch_of(r: Record, place: Place) -> u8
     ensures { λ k. ⌜ k ≡ switchOf (r .kind) r place ⌝ }
 {
     let kind = r.kind;
@@ -37,7 +37,7 @@ pub fn switch_of(r: Record, place: Place) -> u8
 }
 
 // Questions 12, 29 and 26, before anything is made or delivered.
-pub fn record_question(n: u8, r: Record, place: Place) -> u8
+pub(crate) fn record_question(n: u8, r: Record, place: Place) -> u8
     ensures { λ k. ⌜ k ≡ firstNo (recordQuestions n r place) ⌝ }
 {
     if n <= r.controller {

@@ -3,7 +3,9 @@ ghost use mathlib.Core.Path.{_≡_};
 ghost use Prim.Native.Nat.{_+_, _≤_};
 ghost use lib.ListN.{length, take};
 ghost use lib.Seq.{sets};
-ghost use Rattle.rehearsal.specs.Lines.{textOf, text, meaning, printed};
+ghost use Rattle.rehearsal.specs.Limits.{mostLines};
+ghost use Rattle.rehearsal.specs.Lines.{textOf, text, printed};
+ghost use Rattle.rehearsal.specs.Storing.{linesIn};
 use crate::Line;
 use crate::Lines;
 use crate::Printed;
@@ -22,7 +24,7 @@ fn line_width(l: Line) -> usize
 }
 
 fn text_width(places: [Line; limits::LINES], count: usize) -> usize
-    requires { ⌜ count ≤ 4096 ⌝ }
+    requires { ⌜ count ≤ mostLines ⌝ }
     ensures { λ r. ⌜ r ≡ length (text (take count places)) ⌝ }
 {
     let mut n: usize = 0;
@@ -45,7 +47,7 @@ fn put_line(out: &mut [u8], at: usize, l: Line) -> usize
 }
 
 fn put_lines(out: &mut [u8], places: [Line; limits::LINES], count: usize)
-    requires { ⌜ (count ≤ 4096) × (length (text (take count places)) ≤ length (now out)) ⌝ }
+    requires { ⌜ (count ≤ mostLines) × (length (text (take count places)) ≤ length (now out)) ⌝ }
     ensures { λ _. ⌜ now (out .exit) ≡ sets (now (out .entry)) 0 (text (take count places)) ⌝ }
 {
     let mut at: usize = 0;
@@ -59,8 +61,8 @@ fn put_lines(out: &mut [u8], places: [Line; limits::LINES], count: usize)
 
 // The lines in use, printed from the start of an output.
 pub(crate) fn print(lines: Lines, out: &mut [u8]) -> Printed
-    requires { ⌜ lines .count ≤ 4096 ⌝ }
-    ensures { λ r. ⌜ (r, now (out .exit)) ≡ printed (text (meaning lines)) (now (out .entry)) ⌝ }
+    requires { ⌜ lines .count ≤ mostLines ⌝ }
+    ensures { λ r. ⌜ (r, now (out .exit)) ≡ printed (text (linesIn lines)) (now (out .entry)) ⌝ }
 {
     let places = lines.places;
     let count = lines.count;

@@ -2,13 +2,34 @@
 ghost use mathlib.Core.Path.{_≡_};
 ghost use Prim.Native.Nat.{_≤_};
 ghost use lib.ListN.{length};
-ghost use Rattle.rehearsal.specs.Records.{kindOf, sizeOf, naming, recordOf, recordAt};
+ghost use Rattle.rehearsal.specs.Records.{isKind, kindOf, sizeOf, naming, recordOf, recordAt};
 ghost use Rattle.rehearsal.specs.declared.Kind.the-variants as kinds;
 use crate::Kind;
 use crate::Next;
 use crate::Record;
 use crate::limits;
 use lists::byte_at;
+
+fn is_kind(byte: u8) -> bool
+    ensures { λ r. ⌜ r ≡ isKind byte ⌝ }
+{
+    if byte == limits::DECIDE {
+        return true;
+    }
+    if byte == limits::SEND {
+        return true;
+    }
+    if byte == limits::REPORT {
+        return true;
+    }
+    if byte == limits::RAW {
+        return true;
+    }
+    if byte == limits::KEEP {
+        return true;
+    }
+    byte == limits::DELIVER
+}
 
 fn kind_of(byte: u8) -> Kind
     ensures { λ r. ⌜ r ≡ kindOf byte ⌝ }
@@ -45,7 +66,7 @@ pub fn size_of(kind: Kind) -> usize
     }
 }
 
-fn naming(kind: Kind, controller: u8, switch: u8, place: u8) -> Record
+pub(crate) fn naming(kind: Kind, controller: u8, switch: u8, place: u8) -> Record
     ensures { λ r. ⌜ r ≡ naming kind controller switch place ⌝ }
 {
     Record {
@@ -88,15 +109,15 @@ fn record_of(kind: Kind, b: &[u8]) -> Record
     }
 }
 
-// The record at the front of bytes: questions 31 and 30. (Where no byte is left there is no kind: 31.)
+// The record at the front of bytes: questions 30, 31 and 30.
 pub fn record_at(b: &[u8]) -> Next
     ensures { λ r. ⌜ r ≡ recordAt (now (b .entry)) ⌝ }
 {
-    let byte = byte_at(b, 0);
-    if byte < limits::DECIDE {
-        return Next::Refused(answer::UNKNOWN_KIND);
+    if b.len() == 0 {
+        return Next::Refused(answer::CUT_SHORT);
     }
-    if limits::DELIVER < byte {
+    let byte = byte_at(b, 0);
+    if !is_kind(byte) {
         return Next::Refused(answer::UNKNOWN_KIND);
     }
     let kind = kind_of(byte);

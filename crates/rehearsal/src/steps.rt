@@ -1,28 +1,29 @@
 // One record carried out on the controller, the switch and the place that it names.
 ghost use mathlib.Core.Path.{_≡_};
 ghost use Prim.Native.Nat.{_≤_};
-ghost use lib.ListN.{length};
-ghost use Rattle.controller.specs.Changes.{meaning};
+ghost use Rattle.answer.specs.Limits.{mostControllers};
 ghost use Rattle.rehearsal.specs.Worlds.{bytesOf};
-ghost use Rattle.rehearsal.specs.Steps.{delivered, shareMade, sent, reported, kept};
-ghost use Rattle.rehearsal.specs.Steps.{byController, bySwitch, byPlace, unmoved, carriedOut, performed};
+ghost use Rattle.rehearsal.specs.Steps.{delivered, shareMade, reported, kept};
+ghost use Rattle.rehearsal.specs.Steps.{byController, bySwitch, byPlace};
+ghost use Rattle.rehearsal.specs.Deeds.{carriedBut};
+use crate::Dropped;
 use crate::Kind;
 use crate::Made;
 use crate::Moved;
 use crate::Place;
 use crate::Record;
 use crate::Share;
+use crate::delivery::arrive;
 use crate::keys::controller_keys;
 use crate::keys::switch_keys;
 use crate::limits;
 use crate::worlds::no_share;
 use controller::Controller;
-use controller::Held;
 use switch::Switch;
 
 // Bytes delivered to a switch.
 fn deliver(n: u8, s: Switch, switch: u8, bytes: &[u8]) -> switch::Reply
-    requires { ⌜ n ≤ 16 ⌝ }
+    requires { ⌜ n ≤ mostControllers ⌝ }
     ensures { λ r. ⌜ r ≡ delivered n s switch (now (bytes .entry)) ⌝ }
 {
     let keys = switch_keys(switch);
@@ -31,8 +32,8 @@ fn deliver(n: u8, s: Switch, switch: u8, bytes: &[u8]) -> switch::Reply
 }
 
 // A share delivered to a switch.
-fn deliver_share(n: u8, s: Switch, switch: u8, share: Share) -> switch::Reply
-    requires { ⌜ n ≤ 16 ⌝ }
+pub(crate) fn deliver_share(n: u8, s: Switch, switch: u8, share: Share) -> switch::Reply
+    requires { ⌜ n ≤ mostControllers ⌝ }
     ensures { λ r. ⌜ r ≡ delivered n s switch (bytesOf share) ⌝ }
 {
     let bytes = share.bytes;
@@ -40,7 +41,7 @@ fn deliver_share(n: u8, s: Switch, switch: u8, share: Share) -> switch::Reply
 }
 
 // The current share of a controller for a switch; all shares have one length.
-pub fn make_share(c: Controller, controller: u8, switch: u8) -> Made
+pub(crate) fn make_share(c: Controller, controller: u8, switch: u8) -> Made
     ensures { λ r. ⌜ r ≡ shareMade c controller switch ⌝ }
 {
     let keys = controller_keys(controller);
@@ -63,25 +64,9 @@ pub fn make_share(c: Controller, controller: u8, switch: u8) -> Made
     }
 }
 
-// A share made and delivered.
-fn send(n: u8, c: Controller, s: Switch, controller: u8, switch: u8) -> switch::Reply
-    requires { ⌜ n ≤ 16 ⌝ }
-    ensures { λ r. ⌜ r ≡ sent n c s controller switch ⌝ }
-{
-    let made = make_share(c, controller, switch);
-    if made.answer != answer::DONE {
-        return switch::Reply {
-            answer: made.answer,
-            state: s,
-        };
-    }
-    let share = made.share;
-    deliver_share(n, s, switch, share)
-}
-
 // An acknowledgement made and delivered.
 fn report(n: u8, s: Switch, c: Controller, switch: u8, controller: u8) -> controller::Reply
-    requires { ⌜ n ≤ 16 ⌝ }
+    requires { ⌜ n ≤ mostControllers ⌝ }
     ensures { λ r. ⌜ r ≡ reported n s c switch controller ⌝ }
 {
     let keys = switch_keys(switch);
@@ -113,20 +98,13 @@ fn keep(made: Made, switch: u8, place: Place) -> Place
     }
 }
 
-// How many undone changes there are: as many as are counted, where there are places for them.
-fn undone_in(h: Held) -> u32
-    ensures { λ r. ⌜ r ≡ length (meaning h) ⌝ }
-{
-    if h.count <= 64 { h.count as u32 } else { 64 }
-}
-
 // The controller replied; the figure is how many changes it has undone.
 fn by_controller(c: Controller, s: Switch, place: Place, r: controller::Reply) -> Moved
     ensures { λ m. ⌜ m ≡ byController c s place r ⌝ }
 {
     let state = r.state;
     let undone = state.progress.undone;
-    let figure = undone_in(undone);
+    let figure = controller::undone_in(undone) as u32;
     Moved {
         answer: r.answer,
         figure: figure,
@@ -164,30 +142,18 @@ fn by_place(c: Controller, s: Switch, place: Place, made: Made, switch: u8) -> M
     }
 }
 
-// Nothing moved; the figure is 0.
-fn unmoved(c: Controller, s: Switch, place: Place, answer: u8) -> Moved
-    ensures { λ m. ⌜ m ≡ unmoved c s place answer ⌝ }
-{
-    Moved {
-        answer: answer,
-        figure: 0,
-        controller: c,
-        switch: s,
-        place: place,
-    }
-}
-
-// A record carried out, with its bytes and what it names.
+// A record carried out with its share and what it names.
 pub(crate) fn carry_out(
+    d: Dropped,
     n: u8,
     c: Controller,
     s: Switch,
     place: Place,
     r: Record,
-    bytes: &[u8],
+    made: Made,
 ) -> Moved
-    requires { ⌜ (n ≤ 16) × (2 ≤ length (now bytes)) ⌝ }
-    ensures { λ m. ⌜ m ≡ carriedOut c s place n (r .kind) r (now (bytes .entry)) ⌝ }
+    requires { ⌜ n ≤ mostControllers ⌝ }
+    ensures { λ m. ⌜ m ≡ carriedBut d c s place n (r .kind) r made ⌝ }
 {
     let kind = r.kind;
     match kind {
@@ -196,7 +162,7 @@ pub(crate) fn carry_out(
             by_controller(c, s, place, reply)
         }
         Kind::Send => {
-            let reply = send(n, c, s, r.controller, r.switch);
+            let reply = arrive(d, n, s, r.switch, made);
             by_switch(c, s, place, reply)
         }
         Kind::Report => {
@@ -204,31 +170,13 @@ pub(crate) fn carry_out(
             by_controller(c, s, place, reply)
         }
         Kind::Raw => {
-            let reply = deliver(n, s, r.switch, &bytes[2..]);
+            let reply = arrive(d, n, s, r.switch, made);
             by_switch(c, s, place, reply)
         }
-        Kind::Keep => {
-            let made = make_share(c, r.controller, r.switch);
-            by_place(c, s, place, made, r.switch)
-        }
+        Kind::Keep => by_place(c, s, place, made, r.switch),
         Kind::Deliver => {
-            let share = place.share;
-            let reply = deliver_share(n, s, place.switch, share);
+            let reply = arrive(d, n, s, place.switch, made);
             by_switch(c, s, place, reply)
         }
     }
-}
-
-// A record that passed its questions, carried out. More than sixteen controllers, or less than two bytes of the record,
-// are refused by 20 and 30, and nothing moves.
-pub fn perform(n: u8, c: Controller, s: Switch, place: Place, r: Record, bytes: &[u8]) -> Moved
-    ensures { λ m. ⌜ m ≡ performed c s place n r (now (bytes .entry)) ⌝ }
-{
-    if 16 < n {
-        return unmoved(c, s, place, answer::LIMITS_BROKEN);
-    }
-    if bytes.len() < 2 {
-        return unmoved(c, s, place, answer::CUT_SHORT);
-    }
-    carry_out(n, c, s, place, r, bytes)
 }

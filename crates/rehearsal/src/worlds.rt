@@ -1,5 +1,6 @@
 // The world before a script: all ends as their setups leave them, and all places empty.
 ghost use mathlib.Core.Path.{_≡_};
+ghost use Rattle.answer.specs.Limits.{mostControllers, switchCount};
 ghost use Rattle.switch.specs.States as switches;
 ghost use Rattle.controller.specs.States as controllers;
 ghost use mathlib.Core.List.{[]};
@@ -13,13 +14,13 @@ use playbook::Playbook;
 use switch::Switch;
 
 fn switches_of(n: u8) -> [Switch; limits::SWITCHES]
-    ensures { λ r. ⌜ r ≡ each (λ s. switches.setupOf s n .state) 16 ⌝ }
+    ensures { λ r. ⌜ r ≡ each (λ s. switches.setupOf s n .state) switchCount ⌝ }
 {
     let first = switch::setup(0, n);
     let s = first.state;
     let mut out = [s; limits::SWITCHES];
     let mut i: u8 = 0;
-    while i < 16 {
+    while i < answer::limits::SWITCHES {
         let r = switch::setup(i, n);
         let state = r.state;
         out[i as usize] = state;
@@ -29,13 +30,13 @@ fn switches_of(n: u8) -> [Switch; limits::SWITCHES]
 }
 
 fn controllers_of(n: u8, p: Playbook) -> [Controller; limits::CONTROLLERS]
-    ensures { λ r. ⌜ r ≡ each (λ c. controllers.setupOf c n p .state) 16 ⌝ }
+    ensures { λ r. ⌜ r ≡ each (λ c. controllers.setupOf c n p .state) mostControllers ⌝ }
 {
     let first = controller::setup(0, n, p);
     let c = first.state;
     let mut out = [c; limits::CONTROLLERS];
     let mut i: u8 = 0;
-    while i < 16 {
+    while i < answer::limits::CONTROLLERS {
         let r = controller::setup(i, n, p);
         let state = r.state;
         out[i as usize] = state;
@@ -59,7 +60,7 @@ pub(crate) fn empty_place() -> Place
 {
     let share = no_share();
     Place {
-        switch: 16,
+        switch: answer::limits::SWITCHES,
         share: share,
     }
 }

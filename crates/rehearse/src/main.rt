@@ -1,25 +1,21 @@
 // The rehearsal program (document 01): reads standard input whole and prints the lines of its rehearsal.
 ghost use mathlib.Core.Path.{_≡_};
+ghost use Prim.Native.Nat.{_+_};
 ghost use lib.ListN.{length};
+ghost use Rattle.rehearsal.specs.Limits.{longestInput, mostPrinted};
 use libc::STDIN_FILENO;
 use libc::STDOUT_FILENO;
 
-// The longest input that can be rehearsed has 13,506 bytes: a byte n, a playbook of 5,313 and a script of 8,192. One
-// byte further tells a longer one: its lines are those of all its bytes.
-const INPUT: usize = 13507;
-// No input prints more than 4,096 lines of 33 bytes.
-const OUTPUT: usize = 135168;
-
-fn for_input() -> [u8; INPUT]
-    ensures { λ r. ⌜ 13507 ≡ length r ⌝ }
+fn for_input() -> [u8; rehearsal::INPUT]
+    ensures { λ r. ⌜ longestInput + 1 ≡ length r ⌝ }
 {
-    [0u8; INPUT]
+    [0u8; rehearsal::INPUT]
 }
 
-fn for_output() -> [u8; OUTPUT]
-    ensures { λ r. ⌜ 135168 ≡ length r ⌝ }
+fn for_output() -> [u8; rehearsal::OUTPUT]
+    ensures { λ r. ⌜ mostPrinted ≡ length r ⌝ }
 {
-    [0u8; OUTPUT]
+    [0u8; rehearsal::OUTPUT]
 }
 
 fn main() {

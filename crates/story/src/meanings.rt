@@ -1,5 +1,6 @@
 // What refusals mean, as the end of a sentence.
 use prose::say;
+use rehearsal::Kind;
 
 // Of a message, a state or a decision.
 fn say_call(answer: u8) {
@@ -48,9 +49,17 @@ pub(crate) fn say_input(answer: u8) {
     }
 }
 
+// Whether what is kept in a place is to be delivered.
+fn is_deliver(kind: Kind) -> bool {
+    match kind {
+        Kind::Deliver => true,
+        _ => false,
+    }
+}
+
 // Of a record of a kind: an empty place has nothing ready either.
-pub fn say_meaning(kind: u8, answer: u8) {
-    if kind == crate::DELIVER && answer == answer::NOTHING_TO_SEND {
+pub fn say_meaning(kind: Kind, answer: u8) {
+    if answer == answer::NOTHING_TO_SEND && is_deliver(kind) {
         say(b"nothing is kept in that place");
         return;
     }

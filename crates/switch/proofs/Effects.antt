@@ -10,11 +10,11 @@ use lib.Count.{ones}
 use lib.ListN.{length, getD, set, List·getD-map}
 use lib.Seq.{getD-set-same, getD-set-other, map-set-same}
 use borrow.Author.Tests.{ltb-true, leb-true, leb-false, le-leb, lt-leb}
-use Rattle.answer.specs.Ask.{reply, firstNo}
+use Rattle.answer.specs.Ask.{Numbered, reply, firstNo}
 use Rattle.answer.proofs.Asked.{none-asked, asked, reply-ap, answered, reply-from, reply-keeps}
-use Rattle.flow.specs.Tables.{meaning}
+use Rattle.flow.specs.Tables.{entriesOf}
 use Rattle.flow.specs.Changes.{changed}
-use Rattle.flow.specs.Lookups.{lookupOf}
+use Rattle.flow.specs.Lookups.{lookupOf, foundSaid}
 use Rattle.flow.specs.declared.Found.{Found}
 use Rattle.flow.specs.declared.Found.the-variants as found
 use Rattle.switch.specs.Slots.{quorumOf, emptySlot, holds, agreeing, emptied}
@@ -22,7 +22,8 @@ use Rattle.switch.specs.States.{switchOk}
 use Rattle.switch.specs.Shares.{slotOf, stored}
 use Rattle.switch.specs.Receiving.{receivedBy}
 use Rattle.switch.specs.Raising.{nextEvent, withEvent, raisedBy}
-use Rattle.switch.specs.Lookups.{looked, lookedUp, numberOf}
+use Rattle.switch.specs.Lookups.{looked, lookedUp, lookedSaid}
+use Rattle.switch.specs.declared.Looked.{Looked}
 use Rattle.switch.specs.declared.Looked.the-variants.{Refused, Nothing, Port}
 use Rattle.switch.specs.declared.Raised.{Raised}
 use Rattle.switch.specs.declared.Reply.{Reply}
@@ -214,7 +215,11 @@ event-refused e x =
     reply-keeps (λ (r : Stepped). (r .answer ≡ 0 → ⊥) → r .raised ≡ e) _ _ _ (λ k n. refl) (λ l n. absurd (n refl))
 
 -- what a lookup found is what flow's lookup found
-no-number : (f : Found) → numberOf (looked f) ≡ 0
+found-said : (f : Found) → lookedSaid (looked f) ≡ foundSaid f
+found-said (found.Port port) = refl
+found-said found.Nothing = refl
+
+no-number : (f : Found) → foundSaid f .0 ≡ 0
 no-number (found.Port port) = refl
 no-number found.Nothing = refl
 
@@ -228,20 +233,27 @@ none-found found.Nothing h = refl
 
 module _ (s : Switch) (a : ℕ) where
   -- a lookup asks question 20, and then it is flow's lookup in the entries
-  pub looked-number : numberOf (lookedUp s a) ≡ firstNo ((20, switchOk s) ∷ [])
-  looked-number =
-      reply-ap numberOf _ Refused _ ∙ ap (reply _ (λ k. k)) (no-number (lookupOf a (meaning (s .table))))
+  pub looked-said : lookedSaid (lookedUp s a)
+      ≡ reply ((20, switchOk s) ∷ []) (λ k. (k, [])) (foundSaid (lookupOf a (entriesOf (s .table))))
+  looked-said =
+      reply-ap lookedSaid _ Refused _
+      ∙ ap (reply ((20, switchOk s) ∷ []) (λ k. (k, []))) (found-said (lookupOf a (entriesOf (s .table))))
 
-  pub looked-good : switchOk s ≡ true → lookedUp s a ≡ looked (lookupOf a (meaning (s .table)))
+  looked-number : lookedSaid (lookedUp s a) .0 ≡ firstNo ((20, switchOk s) ∷ [])
+  looked-number =
+      ap (λ (x : Numbered). x .0) looked-said ∙ reply-ap (λ (x : Numbered). x .0) _ _ _
+      ∙ ap (reply _ (λ k. k)) (no-number (lookupOf a (entriesOf (s .table))))
+
+  pub looked-good : switchOk s ≡ true → lookedUp s a ≡ looked (lookupOf a (entriesOf (s .table)))
   looked-good y = asked Refused _ 20 _ [] y ∙ none-asked Refused _
 
-  passing : numberOf (lookedUp s a) ≡ 0 → switchOk s ≡ true
+  passing : lookedSaid (lookedUp s a) .0 ≡ 0 → switchOk s ≡ true
   passing h = answered _ refl (sym looked-number ∙ h) 20
 
   pub looked-port : {port : ℕ} → lookedUp s a ≡ Port port
-      → (switchOk s ≡ true) × (lookupOf a (meaning (s .table)) ≡ found.Port port)
-  looked-port h = let y = passing (ap numberOf h) in (y, port-found _ (sym (looked-good y) ∙ h))
+      → (switchOk s ≡ true) × (lookupOf a (entriesOf (s .table)) ≡ found.Port port)
+  looked-port h = let y = passing (ap (λ (l : Looked). lookedSaid l .0) h) in (y, port-found _ (sym (looked-good y) ∙ h))
 
   pub looked-nothing : lookedUp s a ≡ Nothing
-      → (switchOk s ≡ true) × (lookupOf a (meaning (s .table)) ≡ found.Nothing)
-  looked-nothing h = let y = passing (ap numberOf h) in (y, none-found _ (sym (looked-good y) ∙ h))
+      → (switchOk s ≡ true) × (lookupOf a (entriesOf (s .table)) ≡ found.Nothing)
+  looked-nothing h = let y = passing (ap (λ (l : Looked). lookedSaid l .0) h) in (y, none-found _ (sym (looked-good y) ∙ h))

@@ -8,7 +8,7 @@ use lib.ListN.{length, take, drop, getD, set, length-map, List·getD-map, take-a
 use lib.Seq.{drop-cons, getD-at, set-getD, length-take-le}
 use borrow.Author.Tests.{le-leb, lt-leb}
 use Rattle.answer.proofs.Bools.{and-parts}
-use Rattle.lists.specs.Arrays.{everyTail, every}
+use Rattle.lists.specs.Arrays.{every}
 use Rattle.lists.proofs.Stores.{store, drop-map}
 use Rattle.switch.specs.Slots.{emptySlot, slotEmpty, emptied}
 use Rattle.switch.specs.declared.Slot.{Slot}
@@ -46,7 +46,7 @@ module _ (number : ℕ) where
 
   -- empty slots stay so
   all-empty : (slots : List Slot) → every slotEmpty slots ≡ true → map (emptied number) slots ≡ slots
-  unfolding everyTail
+  unfolding every
   all-empty [] h = refl
   all-empty (slot ∷ slots) h =
       let t = and-parts (slotEmpty slot) _ h in

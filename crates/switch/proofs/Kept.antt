@@ -11,12 +11,12 @@ use lib.Dec.{ltb, leb}
 use borrow.Author.Tests.{lt-ltb, leb-false}
 use Rattle.answer.proofs.Asked.{refused, answered, reply-from, reply-keeps}
 use Rattle.answer.proofs.Bools.{by-bool, or-left, or-right}
-use Rattle.lists.specs.Arrays.{everyTail}
+use Rattle.lists.specs.Arrays.{everyTail, every}
 use Rattle.lists.proofs.Rising.{rising-last}
 use Rattle.lists.proofs.Stores.{take-map, drop-map}
 use Rattle.lists.proofs.Tails.{replicate-every, every-take, every-drop, every-set, every-map}
 use Rattle.flow.specs.Rules.{wellFormed}
-use Rattle.flow.specs.Tables.{meaning}
+use Rattle.flow.specs.Tables.{entriesOf}
 use Rattle.flow.specs.Changes.{roomFor}
 use Rattle.flow.proofs.Kept.{table-ok, apply-table}
 use Rattle.switch.specs.Slots.{emptySlot, slotEmpty, slotOk, emptied}
@@ -43,7 +43,7 @@ module _ (id n : ℕ) where
       (λ k h e. absurd (omega arith)) (λ y e. (answered _ refl y 20, refl))
 
   fresh-kept : inRange id n ≡ true → switchOk (fresh id n) ≡ true
-  unfolding switchOk everyTail
+  unfolding switchOk everyTail every
   fresh-kept e =
       let slots = replicate 16 emptySlot in
       let held = every-take (slotOk 0) n slots (replicate-every (slotOk 0) emptySlot 16 refl) in
@@ -89,7 +89,7 @@ module _ (s : Switch) where
 
   -- a rule applied that the table has room for
   pub applied-kept : (share : Slot) → switchOk s ≡ true → wellFormed (share .rule) ≡ true
-      → roomFor (share .rule) (meaning (s .table)) ≡ true → switchOk (applied s share) ≡ true
+      → roomFor (share .rule) (entriesOf (s .table)) ≡ true → switchOk (applied s share) ≡ true
   applied-kept share h formed room =
       let w = within s h in
       let empty = emptied (share .number) in

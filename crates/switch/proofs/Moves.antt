@@ -10,7 +10,8 @@ use borrow.Author.Tests.{lt-ltb, ne-eqb}
 use Rattle.answer.specs.Ask.{pick}
 use Rattle.answer.proofs.Asked.{reply-keeps}
 use Rattle.answer.proofs.Bools.{and-join, pick-same}
-use Rattle.lists.specs.Rising.{risingFrom, lastOf}
+use Rattle.lists.specs.Rising.{risingFrom}
+use Rattle.lists.specs.Places.{lastOf}
 use Rattle.message.proofs.Ends.{share-number}
 use Rattle.switch.specs.Slots.{isQuorum}
 use Rattle.switch.specs.Shares.{stored, applied}

@@ -15,7 +15,8 @@ use Rattle.answer.proofs.Asked.{reply-keeps}
 use Rattle.answer.proofs.Bools.{by-bool, tf, is-false, and-join}
 use Rattle.lists.specs.Counts.{count}
 use Rattle.lists.specs.Kinds.{among, different}
-use Rattle.lists.specs.Rising.{risingFrom, lastOf}
+use Rattle.lists.specs.Rising.{risingFrom}
+use Rattle.lists.specs.Places.{lastOf}
 use Rattle.lists.proofs.Counts.{count-replicate, count-set-passing, count-set-failing, count-map}
 use Rattle.lists.proofs.Rising.{rising-between, rising-different, rising-append, last-append}
 use Rattle.switch.specs.Slots.{quorumOf, emptySlot, holds, agreeing, isQuorum, emptied, controllers}

@@ -8,7 +8,7 @@ use Rattle.answer.specs.Ask.{firstNo, reply}
 use Rattle.answer.proofs.Asked.{answered}
 use Rattle.answer.proofs.Bools.{by-or, or-right, by-eq, tf}
 use Rattle.flow.specs.Rules.{wellFormed}
-use Rattle.flow.specs.Tables.{meaning}
+use Rattle.flow.specs.Tables.{entriesOf}
 use Rattle.flow.specs.Changes.{roomFor}
 use Rattle.switch.specs.Slots.{holds}
 use Rattle.switch.specs.Shares.{keepsRule, shareQuestions}
@@ -21,7 +21,7 @@ pub record Passes (s : Switch) (slot share : Slot) : Type 0 where
   pub above : s .last < share .number
   pub latest : slot .number ≤ share .number
   pub same : slot .number ≡ share .number → slot ≡ share
-  pub room : roomFor (share .rule) (meaning (s .table)) ≡ true
+  pub room : roomFor (share .rule) (entriesOf (s .table)) ≡ true
 
 module _ (s : Switch) (slot share : Slot) where
   kept-rule : keepsRule slot share ≡ true → slot .number ≡ share .number → slot ≡ share

@@ -18,7 +18,7 @@ use Rattle.message.specs.declared.Message.the-variants.{Share}
 use Rattle.message.proofs.Ends.{by-switch, from-10}
 use Rattle.switch.specs.Slots.{slotFor, holds, isQuorum}
 use Rattle.switch.specs.States.{unchanged, switchOk, stateQuestions}
-use Rattle.switch.specs.Shares.{slotOf, shareQuestions, stored, applied, taken, takeShare}
+use Rattle.switch.specs.Shares.{slotOf, shareQuestions, stored, applied, accepted, takeShare}
 use Rattle.switch.specs.Receiving.{receivedBy}
 use Rattle.switch.specs.declared.Reply.{Reply}
 use Rattle.switch.specs.declared.Slot.{Slot}
@@ -52,7 +52,7 @@ module _ (s : Switch) (keys bytes : List ℕ) where
   Replies r = Received s keys bytes (r .answer) (r .state)
 
   -- a share after all questions
-  passed-on : {c : ℕ} {share : Slot} → Arrives s keys bytes c share → Replies (taken s c share)
+  passed-on : {c : ℕ} {share : Slot} → Arrives s keys bytes c share → Replies (accepted s c share)
   passed-on {c} {share} a =
       by-bool (holds share (slotOf s c))
       (λ y. rw y (repeated a y))
@@ -77,7 +77,7 @@ module _ (s : Switch) (keys bytes : List ℕ) where
         passes = passes s (slotOf s c) (slotFor number rule) own;
       }
 
-  -- the questions in order: the first that is answered no refuses, and what passes all of them is taken
+  -- the questions in order: the first that is answered no refuses, and what passes all of them is accepted
   pub received : Received s keys bytes (receivedBy s keys bytes .answer) (receivedBy s keys bytes .state)
   unfolding receivedBy takeShare
   received =
@@ -89,7 +89,7 @@ module _ (s : Switch) (keys bytes : List ℕ) where
       (λ k h d. rw d (refused (from-10 h))))
 
   pub arrival : {c : ℕ} {share : Slot} → Arrives s keys bytes c share
-      → receivedBy s keys bytes ≡ taken s c share
+      → receivedBy s keys bytes ≡ accepted s c share
   unfolding receivedBy takeShare reply
   arrival {c} {share} a =
       rw (a .limits, eq-eqb _ _ (a .store), a .read, lt-ltb _ _ (a .known), eq-eqb (s .id) (s .id) refl, a .sealed)

@@ -1,8 +1,8 @@
 -- Lookup in the table of a switch (document 01, "Bytes"). Assumes nothing.
 use Prim.Native.Nat.{ℕ}
 use mathlib.Core.List.{[], _∷_}
-use Rattle.answer.specs.Ask.{reply}
-use Rattle.flow.specs.Tables.{meaning}
+use Rattle.answer.specs.Ask.{Numbered, reply}
+use Rattle.flow.specs.Tables.{entriesOf}
 use Rattle.flow.specs.Lookups.{lookupOf}
 use Rattle.flow.specs.declared.Found.{Found}
 use Rattle.flow.specs.declared.Found.the-variants as found
@@ -16,10 +16,10 @@ looked (found.Port port) = Port port
 looked found.Nothing = Nothing
 
 abbrev pub lookedUp : Switch → ℕ → Looked
-lookedUp s address = reply ((20, switchOk s) ∷ []) Refused (looked (lookupOf address (meaning (s .table))))
+lookedUp s address = reply ((20, switchOk s) ∷ []) Refused (looked (lookupOf address (entriesOf (s .table))))
 
--- document 01's number of each case: 0 where the state passed
-abbrev pub numberOf : Looked → ℕ
-numberOf (Refused k) = k
-numberOf Nothing = 0
-numberOf (Port port) = 0
+-- document 01's number of each case, 0 where the state passed, and its values
+abbrev pub lookedSaid : Looked → Numbered
+lookedSaid (Refused k) = (k, [])
+lookedSaid Nothing = (0, [])
+lookedSaid (Port port) = (0, port ∷ [])

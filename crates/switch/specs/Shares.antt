@@ -7,7 +7,7 @@ use lib.ListN.{getD, set}
 use lib.Dec.{ltb, leb, eqb}
 use Rattle.answer.specs.Ask.{Question, pick, reply}
 use Rattle.flow.specs.Rules.{wellFormed}
-use Rattle.flow.specs.Tables.{meaning}
+use Rattle.flow.specs.Tables.{entriesOf}
 use Rattle.flow.specs.Changes.{changed, roomFor}
 use Rattle.switch.specs.Slots.{emptySlot, holds, isQuorum, emptied}
 use Rattle.switch.specs.States.{unchanged, withShares}
@@ -30,7 +30,7 @@ shareQuestions s slot share =
     ∷ (16, ltb (s .last) (share .number))
     ∷ (17, leb (slot .number) (share .number))
     ∷ (18, keepsRule slot share)
-    ∷ (19, roomFor (share .rule) (meaning (s .table)))
+    ∷ (19, roomFor (share .rule) (entriesOf (s .table)))
     ∷ []
 
 -- the share in its sender's slot
@@ -47,8 +47,8 @@ abbrev pub counted : Switch → Slot → Reply
 counted s share = pick (isQuorum (s .n) share (s .slots)) (unchanged (applied s share) 1) (unchanged s 0)
 
 -- a share after all questions: equal to the slot a repeat, else stored and counted
-abbrev pub taken : Switch → ℕ → Slot → Reply
-taken s c share = pick (holds share (slotOf s c)) (unchanged s 2) (counted (stored s c share) share)
+abbrev pub accepted : Switch → ℕ → Slot → Reply
+accepted s c share = pick (holds share (slotOf s c)) (unchanged s 2) (counted (stored s c share) share)
 
 unfoldable pub takeShare : Switch → ℕ → Slot → Reply
-takeShare s c share = reply (shareQuestions s (slotOf s c) share) (unchanged s) (taken s c share)
+takeShare s c share = reply (shareQuestions s (slotOf s c) share) (unchanged s) (accepted s c share)

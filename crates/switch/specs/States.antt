@@ -5,6 +5,7 @@ use mathlib.Core.List.{List, [], _∷_}
 use lib.ListN.{replicate, take, drop}
 use lib.Dec.{ltb, leb, eqb}
 use Rattle.answer.specs.Ask.{Question, reply}
+use Rattle.answer.specs.Limits.{switchCount, mostControllers}
 use Rattle.lists.specs.Arrays.{every}
 use Rattle.flow.specs.Tables.{tableOf, tableOk}
 use Rattle.flow.specs.declared.Table.{Table}
@@ -43,7 +44,7 @@ withRaised s raised = record {
 
 -- n and the id in range
 abbrev pub inRange : ℕ → ℕ → Bool
-inRange id n = ltb id 16 && leb 1 n && leb n 16
+inRange id n = ltb id switchCount && leb 1 n && leb n mostControllers
 
 -- a switch to which nothing has happened; all zero for id 0 and no controllers
 abbrev pub fresh : ℕ → ℕ → Switch
@@ -52,7 +53,7 @@ fresh id n = record {
   n = n;
   last = 0;
   table = tableOf [];
-  slots = replicate 16 emptySlot;
+  slots = replicate mostControllers emptySlot;
   raised = record { serial = 0; cause = 0 };
 }
 

@@ -16,6 +16,7 @@ pub use lookups::lookup;
 pub use raising::raise;
 pub use raising::raise_in_place;
 pub use receiving::receive;
+pub use slots::agreeing;
 pub use slots::quorum;
 pub use states::setup;
 pub use writing::write_acknowledgement;

@@ -8,7 +8,7 @@ use crate::Switch;
 use crate::states::replied;
 use crate::states::switch_ok;
 
-const LAST_SERIAL: u32 = 4294967295;
+const LAST_SERIAL: u32 = answer::limits::LARGEST;
 
 // Question 27; then the next serial, with this cause.
 fn next_event(r: Raised, cause: u8) -> Stepped

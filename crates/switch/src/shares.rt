@@ -4,9 +4,10 @@ ghost use mathlib.Core.Bool.{true};
 ghost use Prim.Native.Nat.{_<_, _≤_};
 ghost use lib.ListN.{drop};
 ghost use Rattle.answer.specs.Ask.{firstNo};
+ghost use Rattle.answer.specs.Limits.{mostControllers};
 ghost use Rattle.lists.specs.Arrays.{every};
 ghost use Rattle.flow.specs.Rules.{wellFormed};
-ghost use Rattle.flow.specs.Tables.{meaning, tableOk};
+ghost use Rattle.flow.specs.Tables.{entriesOf, tableOk};
 ghost use Rattle.flow.specs.Changes.{roomFor};
 ghost use Rattle.switch.specs.Slots.{slotEmpty};
 ghost use Rattle.switch.specs.States.{switchOk};
@@ -54,8 +55,8 @@ fn share_question(s: Switch, slot: Slot, share: Slot) -> u8
 // The state with a share's rule applied, for which its table has room.
 fn apply(s: Switch, share: Slot) -> Switch
     requires { ⌜ (tableOk (s .table) ≡ true) × (wellFormed (share .rule) ≡ true)
-        × (roomFor (share .rule) (meaning (s .table)) ≡ true)
-        × (s .n ≤ 16) × (every slotEmpty (drop (s .n) (s .slots)) ≡ true) ⌝ }
+        × (roomFor (share .rule) (entriesOf (s .table)) ≡ true)
+        × (s .n ≤ mostControllers) × (every slotEmpty (drop (s .n) (s .slots)) ≡ true) ⌝ }
     ensures { λ r. ⌜ r ≡ applied s share ⌝ }
 {
     let table = s.table;
@@ -75,8 +76,8 @@ fn apply(s: Switch, share: Slot) -> Switch
 // A share stored in its sender's slot and counted: applied at the quorum, else held.
 fn store(s: Switch, c: usize, share: Slot) -> Reply
     requires { ⌜ (c < s .n) × (tableOk (s .table) ≡ true)
-        × (wellFormed (share .rule) ≡ true) × (roomFor (share .rule) (meaning (s .table)) ≡ true)
-        × (s .n ≤ 16) × (every slotEmpty (drop (s .n) (s .slots)) ≡ true) ⌝ }
+        × (wellFormed (share .rule) ≡ true) × (roomFor (share .rule) (entriesOf (s .table)) ≡ true)
+        × (s .n ≤ mostControllers) × (every slotEmpty (drop (s .n) (s .slots)) ≡ true) ⌝ }
     ensures { λ r. ⌜ r ≡ counted (stored s c share) share ⌝ }
 {
     let mut next = s;

@@ -3,7 +3,9 @@ ghost use mathlib.Core.Path.{_≡_};
 ghost use mathlib.Core.Bool.{true, _&&_};
 ghost use mathlib.Core.List.{map};
 ghost use Prim.Native.Nat.{_≤_};
+ghost use lib.Count.{ones};
 ghost use lib.ListN.{take, drop};
+ghost use Rattle.answer.specs.Limits.{mostControllers};
 ghost use Rattle.lists.specs.Arrays.{every};
 ghost use Rattle.switch.specs.Slots.{quorumOf, emptySlot, slotEmpty, slotOk, holds, agreeing, isQuorum, emptied};
 use crate::Slot;
@@ -58,7 +60,7 @@ fn slot_ok(slot: Slot, last: u32) -> bool
 
 // Whether the first n slots are empty, or hold numbers above the last applied one, and the slots from n on are empty.
 pub(crate) fn slots_ok(slots: [Slot; limits::CONTROLLERS], n: usize, last: u32) -> bool
-    requires { ⌜ n ≤ 16 ⌝ }
+    requires { ⌜ n ≤ mostControllers ⌝ }
     ensures { λ r. ⌜ r ≡ (every (slotOk last) (take n slots) && every slotEmpty (drop n slots)) ⌝ }
 {
     let mut i: usize = 0;
@@ -110,6 +112,14 @@ fn agreeing_set(slots: [Slot; limits::CONTROLLERS], share: Slot) -> u16
     bits
 }
 
+// How many controllers have this share in their slots.
+pub fn agreeing(slots: [Slot; limits::CONTROLLERS], share: Slot) -> u32
+    ensures { λ r. ⌜ r ≡ ones (agreeing share slots) ⌝ }
+{
+    let bits = agreeing_set(slots, share);
+    u16::count_ones(bits)
+}
+
 // Whether as many controllers agree as n controllers need.
 pub(crate) fn is_quorum(n: u8, slots: [Slot; limits::CONTROLLERS], share: Slot) -> bool
     ensures { λ r. ⌜ r ≡ isQuorum n share slots ⌝ }
@@ -125,7 +135,7 @@ pub(crate) fn emptied_slots(
     n: usize,
     number: u32,
 ) -> [Slot; limits::CONTROLLERS]
-    requires { ⌜ (n ≤ 16) × (every slotEmpty (drop n slots) ≡ true) ⌝ }
+    requires { ⌜ (n ≤ mostControllers) × (every slotEmpty (drop n slots) ≡ true) ⌝ }
     ensures { λ r. ⌜ r ≡ map (emptied number) slots ⌝ }
 {
     let empty = empty_slot();

@@ -7,7 +7,7 @@ use native.Mathlib.Omega.{arith}
 use lib.ListN.{length, getD, take, set}
 use lib.Seq.{take-suc-set, getD-take, take-take, take-all}
 use Rattle.tag.specs.Sha256.{K, word, words, next, schedule, round, rounds, sums, compress}
-use Rattle.tag.specs.Sha256.{Rounds, Extends}
+use Rattle.tag.specs.Unrolled.{Rounds, Extends}
 use Rattle.tag.specs.declared.block.State.{State}
 
 pub words-step : (m w : List ℕ) (t x : ℕ) → t < length w → take t w ≡ words m t → x ≡ word m (4 * t)

@@ -4,6 +4,7 @@ ghost use mathlib.Core.Path.{_≡_};
 ghost use Prim.Native.Nat.{_+_, _≤_, _<_};
 ghost use lib.ListN.{length, take};
 ghost use Rattle.tag.specs.Sha256 as sha;
+ghost use Rattle.tag.specs.Unrolled as unrolled;
 use crate::bits::add;
 use crate::bits::big0;
 use crate::bits::big1;
@@ -133,7 +134,7 @@ fn next(w: &[u32; 64], t: usize) -> u32
 // Eight words more of a schedule, from word t on.
 fn extend(w: &mut [u32; 64], t: usize)
     requires { ⌜ (16 ≤ t) × (t + 8 ≤ 64) × (length (now w) ≡ 64) ⌝ }
-    ensures { λ _. ⌜ (length (now (w .exit)) ≡ 64) × sha.Extends (now (w .entry)) t (now (w .exit)) ⌝ }
+    ensures { λ _. ⌜ (length (now (w .exit)) ≡ 64) × unrolled.Extends (now (w .entry)) t (now (w .exit)) ⌝ }
 {
     let mut i = t;
     while i < t + 8 {
@@ -163,7 +164,7 @@ fn round(s: State, k: u32, w: u32) -> State
 // Two rounds from round t on, and eight.
 fn two(s: State, k: &[u32; 64], w: &[u32; 64], t: usize) -> State
     requires { ⌜ (t + 2 ≤ 64) × (now k ≡ sha.K) ⌝ }
-    ensures { λ r. ⌜ sha.Rounds (now (w .entry)) t s (t + 2) r ⌝ }
+    ensures { λ r. ⌜ unrolled.Rounds (now (w .entry)) t s (t + 2) r ⌝ }
 {
     let n = round(s, k[t], w[t]);
     round(n, k[t + 1], w[t + 1])
@@ -171,7 +172,7 @@ fn two(s: State, k: &[u32; 64], w: &[u32; 64], t: usize) -> State
 
 fn eight(s: State, k: &[u32; 64], w: &[u32; 64], t: usize) -> State
     requires { ⌜ (t + 8 ≤ 64) × (now k ≡ sha.K) ⌝ }
-    ensures { λ r. ⌜ sha.Rounds (now (w .entry)) t s (t + 8) r ⌝ }
+    ensures { λ r. ⌜ unrolled.Rounds (now (w .entry)) t s (t + 8) r ⌝ }
 {
     let a = two(s, k, w, t);
     let b = two(a, k, w, t + 2);

@@ -1,4 +1,7 @@
 // Calls at one controller.
+ghost use mathlib.Core.Path.{_≡_};
+ghost use Prim.Native.Nat.{_^_, _<_};
+ghost use lib.ListN.{length};
 use crate::turns::mix;
 use controller::Controller;
 
@@ -61,7 +64,9 @@ fn decide_all(controller: Controller, switch: u8, cause: u8, times: u32) -> Call
 }
 
 // The sum of calls, with the last number given and how many changes are undone.
-fn told(c: Called) -> u64 {
+fn told(c: Called) -> u64
+    ensures { λ r. ⌜ r < 2 ^ 45 ⌝ }
+{
     let state = c.state;
     let undone = state.progress.undone;
     mix(mix(c.sum, state.progress.last), (undone.count % 256) as u32)
@@ -79,7 +84,9 @@ pub extern "C" fn timed_decided(
     switch: u8,
     cause: u8,
     times: u32,
-) -> u64 {
+) -> u64
+    ensures { λ r. ⌜ r < 2 ^ 45 ⌝ }
+{
     let begun = receive_all(set_up(id, n, book), keys, acknowledgements, 0);
     let state = begun.state;
     told(decide_all(state, switch, cause, times))
@@ -97,7 +104,9 @@ pub extern "C" fn timed_acknowledged(
     decisions: u32,
     acknowledgements: &[u8],
     times: u32,
-) -> u64 {
+) -> u64
+    ensures { λ r. ⌜ r < 2 ^ 45 ⌝ }
+{
     let begun = decide_all(set_up(id, n, book), switch, cause, decisions);
     let state = begun.state;
     let mut sum: u64 = 0;
@@ -150,7 +159,9 @@ pub extern "C" fn timed_in_turn(
     cause: u8,
     acknowledgements: &[u8],
     times: u32,
-) -> u64 {
+) -> u64
+    ensures { λ r. ⌜ r < 2 ^ 45 ⌝ }
+{
     let state = set_up(id, n, book);
     let mut sum: u64 = 0;
     let mut i: u32 = 0;
@@ -178,7 +189,9 @@ fn write_one(
     frame: &mut [u8],
     at: usize,
     before: u64,
-) -> u64 {
+) -> u64
+    ensures { λ r. ⌜ r < 2 ^ 45 ⌝ }
+{
     let r = controller::write_share(c, keys, receiver, frame, at);
     mix(before, r.answer as u32)
 }
@@ -197,7 +210,9 @@ pub extern "C" fn timed_share_written(
     frame: &mut [u8],
     at: usize,
     times: u32,
-) -> u64 {
+) -> u64
+    ensures { λ r. ⌜ (length (now (frame .exit)) ≡ length (now (frame .entry))) × (r < 2 ^ 45) ⌝ }
+{
     let begun = decide_all(set_up(id, n, book), switch, cause, decisions);
     let state = begun.state;
     let mut sum: u64 = 0;

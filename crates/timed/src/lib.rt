@@ -1,6 +1,7 @@
 // Calls of the library repeated in a loop, for the benchmarks of bench/. Each exported function sets up what a call
-// needs, makes the call over and over and mixes what the calls answer into a sum, which is compared with that of other
-// code. Every one takes all numbers and byte strings; what is proved of them is that they are safe and end.
+// needs, makes the call over and over and mixes what the calls answer into a sum, which bench/ compares with that of
+// other code. Hashes, HMACs, playbooks read and inputs rehearsed: sum and lent bytes are those of so many calls. Calls at
+// an end: any sum below 2 ^ 45, and a frame keeps its length.
 mod controllers;
 mod playbooks;
 mod rehearsals;

@@ -1,4 +1,7 @@
 // Calls at one switch.
+ghost use mathlib.Core.Path.{_≡_};
+ghost use Prim.Native.Nat.{_^_, _<_};
+ghost use lib.ListN.{length};
 use crate::turns::mix;
 use flow::Found;
 use std::num::wrapping_add_u32;
@@ -50,7 +53,9 @@ pub extern "C" fn timed_received(
     filling: &[u8],
     shares: &[u8],
     times: u32,
-) -> u64 {
+) -> u64
+    ensures { λ r. ⌜ r < 2 ^ 45 ⌝ }
+{
     let state = filled(id, n, keys, filling);
     let mut sum: u64 = 0;
     let mut i: u32 = 0;
@@ -101,7 +106,9 @@ pub extern "C" fn timed_looked_up(
     filling: &[u8],
     step: u32,
     times: u32,
-) -> u64 {
+) -> u64
+    ensures { λ r. ⌜ r < 2 ^ 45 ⌝ }
+{
     let mut state = filled(id, n, keys, filling);
     let mut address: u32 = 0;
     let mut sum: u64 = 0;
@@ -126,7 +133,9 @@ pub extern "C" fn timed_forwarded(
     filling: &[u8],
     step: u32,
     times: u32,
-) -> u64 {
+) -> u64
+    ensures { λ r. ⌜ r < 2 ^ 45 ⌝ }
+{
     let state = filled(id, n, keys, filling);
     let table = state.table;
     let mut address: u32 = 0;
@@ -149,7 +158,9 @@ fn write_one(
     frame: &mut [u8],
     at: usize,
     before: u64,
-) -> u64 {
+) -> u64
+    ensures { λ r. ⌜ r < 2 ^ 45 ⌝ }
+{
     if event {
         let r = switch::write_event(s, keys, controller, frame, at);
         mix(before, r.answer as u32)
@@ -172,7 +183,9 @@ pub extern "C" fn timed_written(
     frame: &mut [u8],
     at: usize,
     times: u32,
-) -> u64 {
+) -> u64
+    ensures { λ r. ⌜ (length (now (frame .exit)) ≡ length (now (frame .entry))) × (r < 2 ^ 45) ⌝ }
+{
     let raised = switch::raise(filled(id, n, keys, filling), 0);
     let state = raised.state;
     let mut sum: u64 = 0;

@@ -10,7 +10,7 @@ use lib.Dec.{leb}
 use lib.ListN.{length, getD, take, drop, take-append-drop}
 use borrow.Author.Tests.{leb-true}
 use Rattle.answer.proofs.Bools.{by-bool, by-eq, and-parts, tf}
-use Rattle.lists.specs.Arrays.{pad, everyTail}
+use Rattle.lists.specs.Arrays.{pad, everyTail, every}
 use Rattle.lists.specs.Bytes.{be, num, field}
 use Rattle.lists.specs.Counts.{count}
 use Rattle.lists.specs.Kinds.{among, isAmong}
@@ -138,7 +138,7 @@ decided-once test some (suc (suc (suc (suc c)))) keeps = absurd (omega (arith, k
 
 -- the evening is within the premises
 pub fair : Premises evening evening-calls
-unfolding everyTail
+unfolding everyTail every
 fair = record {
   in-run = all-in-run evening (start evening) evening-calls refl;
   unforged = (
@@ -230,15 +230,15 @@ module _ (k : ℕ) where
       by-eq k 1 (λ e. one e (rw e at h)) (λ other. let e : k ≡ 2 = omega arith in two e (rw e at h))
 
   first-accepted : accepts changes (fed changes []) k ≡ true → k ≡ 1
-  unfolding fed among everyTail ties
+  unfolding fed among everyTail every ties
   first-accepted h = by-accepted [] h (λ e y. e) (λ e y. tf y refl)
 
   second-accepted : accepts changes (fed changes (1 ∷ [])) k ≡ true → k ≡ 2
-  unfolding fed among everyTail ties
+  unfolding fed among everyTail every ties
   second-accepted h = by-accepted (1 ∷ []) h (λ e y. tf y refl) (λ e y. e)
 
   none-accepted : accepts changes (fed changes (2 ∷ 1 ∷ [])) k ≡ true → ⊥
-  unfolding fed among everyTail ties
+  unfolding fed among everyTail every ties
   none-accepted h = by-accepted (2 ∷ 1 ∷ []) h (λ e y. tf y refl) (λ e y. tf y refl)
 
 orderly : (ks : List ℕ) → fed changes ks .refused ≡ [] → (ks ≡ []) ⊎ ((ks ≡ 1 ∷ []) ⊎ (ks ≡ 2 ∷ 1 ∷ []))
@@ -267,6 +267,6 @@ all-made =
 
 pub tables-made : (after whole-evening .switches 2 .table ≡ tableBy 3)
     × (after whole-evening .switches 5 .table ≡ tableBy 2)
-unfolding fed among everyTail upd setEntry pad ties
+unfolding fed among everyTail every upd setEntry pad ties
 tables-made =
     (safe .tables 2 (omega arith) ∙ rw (all-made, agreed-are), safe .tables 5 (omega arith) ∙ rw (all-made, agreed-are))

@@ -11,7 +11,7 @@ use lib.ListN.{length, replicate}
 use borrow.Author.Tests.{ltb-true, eqb-true, lt-ltb, eq-eqb}
 use Rattle.answer.specs.Ask.{Question, reply, firstNo}
 use Rattle.answer.proofs.Asked.{answered}
-use Rattle.lists.specs.Arrays.{pad, everyTail}
+use Rattle.lists.specs.Arrays.{pad, everyTail, every}
 use Rattle.lists.specs.Bytes.{num, field, part}
 use Rattle.lists.specs.Counts.{passing}
 use Rattle.lists.specs.Kinds.{among, kinds}
@@ -27,7 +27,6 @@ use Rattle.message.proofs.Inverse.{decode-encode, encode-sealed}
 use Rattle.playbook.specs.Books.{keysOn, lastCount, countLast}
 use Rattle.playbook.specs.Plans.{planOf, changesFor}
 use Rattle.playbook.specs.Reading.{readFrom}
-use Rattle.playbook.specs.Records.{recordAt}
 use Rattle.playbook.specs.declared.Change.{Change}
 use Rattle.switch.specs.Slots.{slotFor, agreeing}
 use Rattle.switch.specs.States as switch
@@ -55,7 +54,7 @@ use Rattle.message.proofs.Stores.{joined-length, joined-at}
 use Rattle.witness.specs.Evening.{outage, evening, byPort, share}
 
 pub valid : Valid evening
-unfolding countBelow everyTail readFrom recordAt reply num field keysOn kinds among lastCount countLast
+unfolding countBelow everyTail every readFrom reply num field keysOn kinds among lastCount countLast
 valid = record {
   some = omega arith;
   few = omega arith;
@@ -73,7 +72,7 @@ abbrev pub near : Change
 near = record { flow = 0; switch = 5; rule = byPort 2 }
 
 plan-is : changesFor (playbook evening) (5, 1) ≡ far ∷ near ∷ []
-unfolding readFrom recordAt reply num field keysOn kinds among lastCount countLast planOf pad
+unfolding readFrom reply num field keysOn kinds among lastCount countLast planOf pad
 plan-is = refl
 
 -- its changes with their numbers
@@ -81,7 +80,7 @@ abbrev pub changes : List Undone
 changes = numbered 1 1 far ∷ numbered 1 2 near ∷ []
 
 pub agreed-are : agreedChanges (playbook evening) (outage ∷ []) ≡ changes
-unfolding agreedChanges numberedFrom readFrom recordAt reply num field keysOn kinds among lastCount countLast planOf pad
+unfolding agreedChanges numberedFrom readFrom reply num field keysOn kinds among lastCount countLast planOf pad
 agreed-are = refl
 
 rising : risingFrom 0 (numbersOf changes) ≡ true
@@ -190,23 +189,23 @@ abbrev pub made2 : Switch
 made2 = let share = slotFor 1 (byPort 3) in applied (stored waiting2 2 share) share
 
 pub misled : receivedBy fresh2 (switchKeys evening 2) (share 3 2 1 9) ≡ switch.unchanged misled2 0
-unfolding switchOk tableOk everyTail pad takeShare reply among agreeing ones onesIn
+unfolding switchOk tableOk everyTail every pad takeShare reply among agreeing ones onesIn
 misled = comes fresh2 3 1 9 refl
 
 pub holds : receivedBy misled2 (switchKeys evening 2) (share 1 2 1 3) ≡ switch.unchanged waiting2 0
-unfolding switchOk tableOk everyTail pad takeShare reply among agreeing ones onesIn
+unfolding switchOk tableOk everyTail every pad takeShare reply among agreeing ones onesIn
 holds = comes misled2 1 1 3 refl
 
 pub repeats : receivedBy waiting2 (switchKeys evening 2) (share 1 2 1 3) ≡ switch.unchanged waiting2 2
-unfolding switchOk tableOk everyTail pad takeShare reply among agreeing ones onesIn
+unfolding switchOk tableOk everyTail every pad takeShare reply among agreeing ones onesIn
 repeats = comes waiting2 1 1 3 refl
 
 pub makes : receivedBy waiting2 (switchKeys evening 2) (share 2 2 1 3) ≡ switch.unchanged made2 1
-unfolding switchOk tableOk everyTail pad takeShare reply among agreeing ones onesIn
+unfolding switchOk tableOk everyTail every pad takeShare reply among agreeing ones onesIn
 makes = comes waiting2 2 1 3 refl
 
 pub late : receivedBy made2 (switchKeys evening 2) (share 0 2 1 3) ≡ switch.unchanged made2 16
-unfolding switchOk tableOk everyTail pad takeShare reply among agreeing ones onesIn setEntry
+unfolding switchOk tableOk everyTail every pad takeShare reply among agreeing ones onesIn setEntry
 late = comes made2 0 1 3 refl
 
 -- switch 5: the stray's share of change 2, ahead of its turn
@@ -214,5 +213,5 @@ abbrev pub fresh5 : Switch
 fresh5 = switch.fresh 5 4
 
 pub ahead : receivedBy fresh5 (switchKeys evening 5) (share 3 5 2 2) ≡ switch.unchanged (stored fresh5 3 (slotFor 2 (byPort 2))) 0
-unfolding switchOk tableOk everyTail pad takeShare reply among agreeing ones onesIn
+unfolding switchOk tableOk everyTail every pad takeShare reply among agreeing ones onesIn
 ahead = comes fresh5 3 2 2 refl

@@ -43,7 +43,7 @@ module _ (S : Setting) where
       let both = and-parts (ltb c (S .n)) (not (S .strays c)) h in (ltb-true _ _ (both .0), not-true _ (both .1))
 
   pub all-in-run : (r : Run) (xs : List Call) → every inRun xs ≡ true → Every (step S) (InRun S) r xs
-  unfolding everyTail
+  unfolding everyTail every
   all-in-run r [] h = tt
   all-in-run r (x ∷ xs) h =
       let both = and-parts (inRun x) (every inRun xs) h in

@@ -1,6 +1,7 @@
 -- Runs in which a message that names a controller that keeps the rules is only ever one that was written: late,
 -- repeated or lost, but not made up. Assumes nothing.
 use Prim.Native.Nat.{ℕ, _<_}
+use Rattle.answer.specs.Limits.{switchCount}
 use Rattle.message.specs.Reading.{decode}
 use Rattle.message.specs.declared.End.the-variants as ends
 use Rattle.switch.specs.Calls.{receives, writes, manages}
@@ -18,6 +19,6 @@ Honest S r (atSwitch s (receives bytes)) =
 Honest S r (atSwitch s (writes kind c frame at)) = Unit {0}
 Honest S r (atSwitch s (manages m)) = Unit {0}
 Honest S r (atController c (controller.receives bytes)) =
-    (s : ℕ) → FromSwitch s c (decode ends.Controller bytes) → s < 16 → SwitchWrote (r .log) s c bytes
+    (s : ℕ) → FromSwitch s c (decode ends.Controller bytes) → s < switchCount → SwitchWrote (r .log) s c bytes
 Honest S r (atController c (writesShare s frame at)) = Unit {0}
 Honest S r (atController c (controller.manages m)) = Unit {0}

@@ -7,6 +7,7 @@ use lib.Dec.{eqb}
 use lib.ListN.{replicate}
 use Rattle.flow.specs.declared.Action.the-variants.{Set}
 use Rattle.flow.specs.declared.Rule.{Rule}
+use Rattle.message.specs.Keys.{keyOf}
 use Rattle.message.specs.Layout.{shareLength}
 use Rattle.message.specs.Writing.{encode}
 use Rattle.message.specs.declared.Message.the-variants.{Share}
@@ -23,7 +24,7 @@ abbrev pub evening : Setting
 evening = record {
   n = 4;
   strays = λ c. eqb c 3;
-  key = λ c s. c ∷ s ∷ replicate 30 0;
+  key = keyOf;
   book =
       17 ∷ 5 ∷ 1
       ∷ 18 ∷ 0 ∷ 2 ∷ 10 ∷ 0 ∷ 0 ∷ 0 ∷ 8 ∷ 0 ∷ 3

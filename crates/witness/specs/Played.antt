@@ -5,6 +5,7 @@ use mathlib.Core.Bool.{not, _&&_}
 use mathlib.Core.List.{List, [], _∷_, _++_}
 use lib.ListN.{replicate}
 use Rattle.answer.specs.Ask.{pick}
+use Rattle.answer.specs.Limits.{switchCount}
 use Rattle.message.specs.Layout.{acknowledgementLength}
 use Rattle.message.specs.Writing.{encode, lengthOf, isMessage}
 use Rattle.switch.specs.Writing.{acknowledgement}
@@ -38,10 +39,10 @@ module _ (S : Setting) where
 
   -- the two halves of a round, and so many rounds
   abbrev pub firstHalf : Run → List Call
-  firstHalf r = forEach 16 (λ u s. forEach (S .n) (tells s) u) r
+  firstHalf r = forEach switchCount (λ u s. forEach (S .n) (tells s) u) r
 
   abbrev pub secondHalf : Run → List Call
-  secondHalf r = forEach 16 (λ u s. forEach (S .n) (shares s) u) r
+  secondHalf r = forEach switchCount (λ u s. forEach (S .n) (shares s) u) r
 
   abbrev pub round : Run → List Call
   round r = firstHalf r ++ secondHalf (run (step S) r (firstHalf r))

@@ -3,12 +3,13 @@
 use Prim.Native.Nat.{_+_, _≤_}
 use lib.ListN.{length}
 use borrow.Author.Needs.{needs}
+use Rattle.notation.specs.Limits.{inputLimit}
 use Rattle.assemble.proofs.assemble.Statement.{statement}
 use Rattle.assemble.proofs.assemble.Tie as tie
 
 abbrev Inv-loop : tie.InvT-loop
 Inv-loop text input₀ count₀ line₀ before₀ rest₀ input count line before rest =
-    (count ≤ 16384) × (line + length rest ≤ length text + 1)
+    (count ≤ inputLimit) × (line + length rest ≤ length text + 1)
 
 abbrev μ-loop : tie.MeasureT-loop
 μ-loop text input₀ count₀ line₀ before₀ rest₀ input count line before rest = length rest

@@ -1,4 +1,4 @@
--- `main` is safe and ends: what is printed stands within the output. Assumes nothing.
+-- `main` is safe and ends: what is printed stands within the output.
 use mathlib.Core.Path.{_≡_, sym, ap}
 use mathlib.Core.List.{List}
 use Prim.Native.Nat.{ℕ, _≤_}
@@ -6,6 +6,7 @@ use native.Mathlib.Omega.{arith}
 use borrow.Author.Needs.{needs}
 use lib.ListN.{length}
 use lib.Seq.{length-take-le}
+use Rattle.rehearsal.specs.Limits.{mostPrinted}
 use Rattle.rehearsal.specs.Lines.{text}
 use Rattle.rehearsal.specs.Scripts.{linesOf, rehearsed}
 use Rattle.rehearsal.specs.declared.Printed.{Printed}
@@ -20,7 +21,7 @@ printed-short input out e long =
     let said = ap (λ (w : Printed × List ℕ). w .0 .length) e in
     omega (arith, printed-within (text (linesOf input)) out)
 
-within : (c : tie.After-rehearse) → c .rehearse .result .length ≤ 135168
+within : (c : tie.After-rehearse) → c .rehearse .result .length ≤ mostPrinted
 within c = printed-short _ _ (c .rehearse .ensures) (c .before .before .before .for-output .ensures)
 
 array-share-prefix-out : tie.Need-array-share-prefix-out

@@ -1,17 +1,17 @@
--- Each field is read once. Assumes nothing.
+-- Each field is read once.
 use Prim.Native.Nat.{_≤_, _-_}
 use borrow.Author.Needs.{needs}
 use Rattle.assemble.proofs.fields.share.Statement.{statement}
 use Rattle.assemble.proofs.fields.share.Tie as tie
 
 abbrev Inv-loop : tie.InvT-loop
-Inv-loop line q₀ i₀ q i = i ≤ 5
+Inv-loop line q₀ count i₀ q i = i ≤ count
 
 abbrev μ-loop : tie.MeasureT-loop
-μ-loop line q₀ i₀ q i = 5 - i
+μ-loop line q₀ count i₀ q i = count - i
 
 pub share-spec : {M : Type 1} → statement M
 share-spec =
     tie.close
-    (tie.spec Inv-loop μ-loop (λ c κs. search needs) (λ c. search needs) (λ c κs. search needs) (λ c κs. search needs)
-    (λ c. search needs) (λ c. search needs) (λ c. search needs) (λ c. search needs))
+    (tie.spec Inv-loop μ-loop (λ c κs. search needs) (λ c κs. search needs) (λ c. search needs) (λ c κs. search needs)
+    (λ c κs. search needs) (λ c. search needs) (λ c. search needs) (λ c. search needs) (λ c. search needs))

@@ -9,7 +9,8 @@ use borrow.Author.Needs.{needs}
 use lib.ListN.{length, take, getD, length-take}
 use Rattle.answer.specs.Ask.{pick}
 use Rattle.lists.proofs.Stores.{length-mapped, take-next}
-use Rattle.controller.specs.Changes.{emptyUndone, heldOf, isUndone, stillUndone, withChange}
+use Rattle.controller.specs.Changes.{emptyUndone, heldOf, isUndone, stillUndone}
+use Rattle.controller.specs.Moving.{withChange}
 use Rattle.controller.proofs.Places.{held-none, held-few, held-turn}
 use Rattle.controller.proofs.acknowledgements.still_undone.Statement.{statement}
 use Rattle.controller.proofs.acknowledgements.still_undone.Tie as tie

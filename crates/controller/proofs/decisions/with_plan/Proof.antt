@@ -11,8 +11,9 @@ use lib.Seq.{set-out}
 use Rattle.answer.specs.Ask.{pick}
 use Rattle.lists.proofs.Padding.{pad-length}
 use Rattle.playbook.specs.Books.{emptyChange}
-use Rattle.controller.specs.Changes.{emptyUndone, meaning, heldOf, isUndone, stillUndone, numberedFrom}
-use Rattle.controller.specs.Changes.{numbered, withChange}
+use Rattle.controller.specs.Changes.{emptyUndone, undoneIn, heldOf, isUndone, stillUndone, numberedFrom}
+use Rattle.controller.specs.Changes.{numbered}
+use Rattle.controller.specs.Moving.{withChange}
 use Rattle.controller.specs.declared.Held.{Held}
 use Rattle.controller.proofs.Numbering.{given-length}
 use Rattle.controller.proofs.Places.{held-none, held-few, held-turn, numbered-none, numbered-turn}
@@ -24,7 +25,7 @@ Inv-loop from count last acknowledged listed out₀ number₀ i₀ out number i 
     (i ≤ count)
     × (number ≡ last + i)
     × (out
-    ≡ heldOf (meaning out₀
+    ≡ heldOf (undoneIn out₀
     ++ stillUndone acknowledged (numberedFrom (last + 1) (last + 1) (take i (drop from listed)))))
 
 abbrev μ-loop : tie.MeasureT-loop
@@ -33,7 +34,7 @@ abbrev μ-loop : tie.MeasureT-loop
 loop-holds : tie.Need-loop-holds Inv-loop μ-loop
 loop-holds c =
     let a = c .args in
-    (omega arith, omega arith, rw numbered-none (c .pre .0 ∙ held-none (a .t2) (meaning (a .h))))
+    (omega arith, omega arith, rw numbered-none (c .pre .0 ∙ held-none (a .t2) (undoneIn (a .h))))
 
 -- the array is full length, and no more are held or counted than were undone or looked at
 full : (c : tie.At-loop Inv-loop μ-loop) → length (c .loop .out .changes) ≡ 64
@@ -47,7 +48,7 @@ few c =
     omega (
       arith,
       s .pre .1,
-      held-few (a .t2) (meaning (a .h)) (numberedFrom (a .last + 1) (a .last + 1) first) (c .loop .inv .2),
+      held-few (a .t2) (undoneIn (a .h)) (numberedFrom (a .last + 1) (a .last + 1) first) (c .loop .inv .2),
       given-length (a .last + 1) (a .last + 1) first,
       length-take (c .loop .i) (drop (a .from) (a .t3)),
       length-take (a .h .count) (a .h .changes),
@@ -89,7 +90,7 @@ loop-again c =
     (ap (λ (k : ℕ). numbered (a .last + 1) k (getD (a .t3) (a .from + at .loop .i) emptyChange)) next) in (
       omega arith,
       omega arith,
-      held-turn (a .t2) (meaning (a .h)) _ (at .loop .inv .2) _ more (turned c),
+      held-turn (a .t2) (undoneIn (a .h)) _ (at .loop .inv .2) _ more (turned c),
     )
 
 returns : tie.Need-returns Inv-loop μ-loop

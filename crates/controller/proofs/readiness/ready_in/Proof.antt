@@ -6,7 +6,7 @@ use native.Mathlib.Omega.{arith}
 use borrow.Author.Needs.{needs}
 use lib.ListN.{length, take, getD}
 use Rattle.answer.specs.Ask.{pick}
-use Rattle.lists.specs.Arrays.{everyTail, every}
+use Rattle.lists.specs.Arrays.{every}
 use Rattle.controller.specs.Changes.{emptyUndone}
 use Rattle.controller.specs.Readiness.{readyOf}
 use Rattle.controller.specs.declared.Ready.the-variants.{Nothing, Change}
@@ -21,7 +21,7 @@ abbrev μ-loop : tie.MeasureT-loop
 μ-loop n switch changes i₀ i = n - i
 
 loop-holds : tie.Need-loop-holds Inv-loop μ-loop
-unfolding everyTail
+unfolding every
 loop-holds c = (omega arith, refl)
 
 -- the i-th change is the first on the switch

@@ -1,18 +1,18 @@
--- Each field is printed once. Assumes nothing.
+-- Each field is printed once.
 use Prim.Native.Nat.{_≤_, _-_}
 use borrow.Author.Needs.{needs}
 use Rattle.disassemble.proofs.fields.say_fields.Statement.{statement}
 use Rattle.disassemble.proofs.fields.say_fields.Tie as tie
 
 abbrev Inv-loop : tie.InvT-loop
-Inv-loop kind «record» rest₀ i₀ rest i = i ≤ 5
+Inv-loop kind «record» rest₀ count i₀ rest i = i ≤ count
 
 abbrev μ-loop : tie.MeasureT-loop
-μ-loop kind «record» rest₀ i₀ rest i = 5 - i
+μ-loop kind «record» rest₀ count i₀ rest i = count - i
 
 pub say-fields-spec : {M : Type 1} → statement M
 say-fields-spec =
     tie.close
-    (tie.spec Inv-loop μ-loop (λ c κs. search needs) (λ c. search needs) (λ c κs. search needs) (λ c κs. search needs)
-    (λ c κs. search needs) (λ c κs. search needs) (λ c. search needs) (λ c. search needs) (λ c. search needs)
-    (λ c. search needs))
+    (tie.spec Inv-loop μ-loop (λ c κs. search needs) (λ c κs. search needs) (λ c. search needs) (λ c κs. search needs)
+    (λ c κs. search needs) (λ c κs. search needs) (λ c κs. search needs) (λ c. search needs) (λ c. search needs)
+    (λ c. search needs) (λ c. search needs))

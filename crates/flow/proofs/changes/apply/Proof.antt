@@ -8,7 +8,7 @@ use lib.ListN.{length}
 use Rattle.answer.proofs.Asked.{refused, asked}
 use Rattle.lists.proofs.Stores.{length-mapped}
 use Rattle.flow.specs.Rules.{wellFormed}
-use Rattle.flow.specs.Tables.{meaning, tableOk}
+use Rattle.flow.specs.Tables.{entriesOf, tableOk}
 use Rattle.flow.specs.Changes.{roomFor}
 use Rattle.flow.proofs.Padded.{ok-padded}
 use Rattle.flow.proofs.Kept.{ok-ordered, ok-few, room-law, apply-done}
@@ -24,7 +24,7 @@ formed c = sym (c .before .well-formed .ensures) ∙ not-false _ (c .if2 .left)
 
 fits : (c : tie.Else3)
     → let a = c .before .before .before .before .before .before .args in
-    roomFor (a .rule) (meaning (a .t)) ≡ true
+    roomFor (a .rule) (entriesOf (a .t)) ≡ true
 fits c = sym (c .before .has-room .ensures) ∙ not-false _ (c .if3 .left)
 
 returns : tie.Need-returns
@@ -50,7 +50,7 @@ change-requires c κs =
     let s = c .before .before .before .before .before .before in
     let t = s .args .t in
     let ok = within (c .before .before .before .before) in
-    (ok-padded t (long s) ok, room-law (s .args .rule) (meaning t) (ok-ordered t ok) (ok-few t ok) (fits c))
+    (ok-padded t (long s) ok, room-law (s .args .rule) (entriesOf t) (ok-ordered t ok) (ok-few t ok) (fits c))
 
 returns-4 : tie.Need-returns-4
 returns-4 c =

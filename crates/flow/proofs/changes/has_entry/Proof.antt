@@ -6,7 +6,7 @@ use Prim.Native.Nat.{_+_, _-_, _≤_}
 use native.Mathlib.Omega.{arith}
 use borrow.Author.Needs.{needs}
 use lib.ListN.{length, take, drop, getD}
-use Rattle.flow.specs.Rules.{keyOf, sameKey}
+use Rattle.flow.specs.Rules.{entryKey, sameKey}
 use Rattle.flow.specs.Tables.{emptyEntry}
 use Rattle.flow.specs.Changes.{hasEntry}
 use Rattle.flow.proofs.Places.{has-step, has-end}
@@ -25,7 +25,7 @@ turn : (c : tie.In-loop Inv-loop μ-loop)
     → let a = c .before .before .args in
     let i = c .before .loop .i in
     hasEntry (a .p, a .l) (take (a .count) (a .t1))
-    ≡ (sameKey (keyOf (getD (a .t1) i emptyEntry)) (a .p, a .l)
+    ≡ (sameKey (entryKey (getD (a .t1) i emptyEntry)) (a .p, a .l)
     || hasEntry (a .p, a .l) (drop (i + 1) (take (a .count) (a .t1))))
 turn c =
     let a = c .before .before .args in

@@ -10,7 +10,7 @@ use lib.ListN.{length, take, drop, getD, set}
 use lib.Seq.{getD-set-same}
 use Rattle.lists.proofs.Stores.{store, put-get, put-take, put-length, put-holds}
 use Rattle.flow.specs.Tables.{emptyEntry}
-use Rattle.lists.specs.Arrays.{put}
+use Rattle.lists.specs.Places.{put}
 use Rattle.flow.proofs.changes.inserted.Statement.{statement}
 use Rattle.flow.proofs.changes.inserted.Tie as tie
 

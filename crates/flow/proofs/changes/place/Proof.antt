@@ -5,7 +5,7 @@ use Prim.Native.Nat.{_+_, _-_, _≤_}
 use native.Mathlib.Omega.{arith}
 use borrow.Author.Needs.{needs}
 use lib.ListN.{length, take, drop}
-use Rattle.flow.specs.Changes.{placeOf}
+use Rattle.flow.specs.Places.{placeOf}
 use Rattle.flow.proofs.Places.{place-again, place-found, place-end}
 use Rattle.flow.proofs.changes.place.Statement.{statement}
 use Rattle.flow.proofs.changes.place.Tie as tie

@@ -6,7 +6,7 @@ use native.Mathlib.Omega.{arith}
 use borrow.Author.Needs.{needs}
 use lib.ListN.{length}
 use Rattle.lists.proofs.Stores.{length-mapped}
-use Rattle.flow.specs.Tables.{meaning}
+use Rattle.flow.specs.Tables.{entriesOf}
 use Rattle.flow.proofs.Places.{present-lt}
 use Rattle.flow.proofs.Padded.{count-is, count-le, removed-table, kept-table}
 use Rattle.flow.proofs.changes.remove_entry.Statement.{statement}
@@ -22,7 +22,7 @@ few c = count-le (c .args .t) (long c) (c .pre)
 below : (c : tie.Then1) → c .before .before .place .result < c .before .before .before .before .args .t .count
 below c =
     let s = c .before .before .before .before in
-    let here = present-lt (s .args .p, s .args .l) (c .before .before .place .result) (meaning (s .args .t)) (cc) in
+    let here = present-lt (s .args .p, s .args .l) (c .before .before .place .result) (entriesOf (s .args .t)) (cc) in
     omega (arith, count-is (s .args .t) (long s) (s .pre))
 
 place-requires : tie.Need-place-requires

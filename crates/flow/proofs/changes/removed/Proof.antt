@@ -9,7 +9,7 @@ use borrow.Author.Needs.{needs}
 use lib.ListN.{length, take, drop, getD}
 use Rattle.lists.proofs.Stores.{store, store-last, del-get, del-take, del-length, del-holds}
 use Rattle.flow.specs.Tables.{emptyEntry}
-use Rattle.lists.specs.Arrays.{del}
+use Rattle.lists.specs.Places.{del}
 use Rattle.flow.proofs.changes.removed.Statement.{statement}
 use Rattle.flow.proofs.changes.removed.Tie as tie
 

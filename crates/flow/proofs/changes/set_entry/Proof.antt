@@ -6,8 +6,8 @@ use native.Mathlib.Omega.{arith}
 use borrow.Author.Needs.{needs}
 use lib.ListN.{length}
 use Rattle.lists.proofs.Stores.{length-mapped}
-use Rattle.flow.specs.Rules.{keyOf}
-use Rattle.flow.specs.Tables.{meaning}
+use Rattle.flow.specs.Rules.{entryKey}
+use Rattle.flow.specs.Tables.{entriesOf}
 use Rattle.flow.proofs.Places.{place-le, present-lt}
 use Rattle.flow.proofs.Padded.{count-is, count-le, set-table, set-length, inserted-table}
 use Rattle.flow.proofs.changes.set_entry.Statement.{statement}
@@ -16,7 +16,7 @@ use Rattle.flow.proofs.changes.set_entry.Tie as tie
 long : (c : tie.Start) → length (c .args .t .entries) ≡ 64
 long c = search (needs, length-mapped)
 
-count : (c : tie.Start) → length (meaning (c .args .t)) ≡ c .args .t .count
+count : (c : tie.Start) → length (entriesOf (c .args .t)) ≡ c .args .t .count
 count c = count-is (c .args .t) (long c) (c .pre .0)
 
 few : (c : tie.Start) → c .args .t .count ≤ 64
@@ -26,7 +26,7 @@ few c = count-le (c .args .t) (long c) (c .pre .0)
 below : (c : tie.Then1) → c .before .before .place .result < c .before .before .before .before .args .t .count
 below c =
     let s = c .before .before .before .before in
-    let here = present-lt (keyOf (s .args .e)) (c .before .before .place .result) (meaning (s .args .t)) (cc) in
+    let here = present-lt (entryKey (s .args .e)) (c .before .before .place .result) (entriesOf (s .args .t)) (cc) in
     omega (arith, count s)
 
 -- an entry that is not present makes one more
@@ -52,7 +52,7 @@ element-set-from-e c = omega (arith, below c, few (c .before .before .before .be
 inserted-requires : tie.Need-inserted-requires
 inserted-requires c κs =
     let s = c .before .before .before .before in
-    let last = place-le (keyOf (s .args .e)) (meaning (s .args .t)) in
+    let last = place-le (entryKey (s .args .e)) (entriesOf (s .args .t)) in
     (omega (arith, c .before .before .place .ensures, count s), room c)
 
 add-t13 : tie.Need-add-t13

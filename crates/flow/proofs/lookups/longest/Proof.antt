@@ -7,7 +7,7 @@ use native.Mathlib.Omega.{arith}
 use borrow.Author.Needs.{needs}
 use borrow.Author.Tests.{le-leb, lt-leb}
 use lib.ListN.{length, take, drop, getD}
-use Rattle.flow.specs.Rules.{keyOf}
+use Rattle.flow.specs.Rules.{entryKey}
 use Rattle.flow.specs.Tables.{emptyEntry}
 use Rattle.flow.specs.Lookups.{Best, covers, bestOf}
 use Rattle.flow.specs.declared.Entry.{Entry}
@@ -38,7 +38,7 @@ full c = let long : length (c .before .before .args .t1) ≡ 64 = search needs i
 -- the branch where the entry of a turn covers the address
 covered : (c : tie.Then1 Inv-loop μ-loop)
     → let t = c .before .before .before in
-    covers (keyOf (entry t)) (t .before .before .args .address) ≡ true
+    covers (entryKey (entry t)) (t .before .before .args .address) ≡ true
 covered c = sym (c .before .does-cover .ensures) ∙ c .if1 .taken
 
 loop-again : tie.Need-loop-again Inv-loop μ-loop

@@ -1,4 +1,4 @@
--- `lookup` meets its contract: the entries that `used` counts are the table's meaning. Assumes nothing.
+-- `lookup` meets its contract: the entries that `used` counts are the table's. Assumes nothing.
 use mathlib.Core.Path.{ap, _∙_}
 use borrow.Author.Needs.{needs}
 use Rattle.flow.specs.Lookups.{lookupOf}

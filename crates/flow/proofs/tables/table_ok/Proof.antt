@@ -10,14 +10,14 @@ use lib.ListN.{length, drop, getD, length-take}
 use Rattle.lists.specs.Arrays.{everyTail, every}
 use Rattle.lists.proofs.Stores.{length-mapped}
 use Rattle.lists.proofs.Tails.{tail-end, every-rest, every-end}
-use Rattle.flow.specs.Tables.{emptyEntry, meaning, entryOk, headOk, isEmpty, tableOk}
+use Rattle.flow.specs.Tables.{emptyEntry, entriesOf, entryOk, headOk, isEmpty, tableOk}
 use Rattle.flow.specs.declared.Table.{Table}
 use Rattle.flow.proofs.Places.{entry-fails, pair-step, last-step}
 use Rattle.flow.proofs.tables.table_ok.Statement.{statement}
 use Rattle.flow.proofs.tables.table_ok.Tie as tie
 
 abbrev Inv-loop : tie.InvT-loop
-Inv-loop t count i₀ i = (i ≤ count) × (everyTail headOk (meaning t) ≡ everyTail headOk (drop i (meaning t)))
+Inv-loop t count i₀ i = (i ≤ count) × (everyTail headOk (entriesOf t) ≡ everyTail headOk (drop i (entriesOf t)))
 
 abbrev μ-loop : tie.MeasureT-loop
 μ-loop t count i₀ i = count - i
@@ -33,7 +33,7 @@ long : (c : tie.Start Inv-loop μ-loop Inv-loop2 μ-loop2) → length (c .args .
 long c = search (needs, length-mapped)
 
 -- the test that fails decides the answer
-unordered : (t : Table) → t .count ≤ 64 → everyTail headOk (meaning t) ≡ false → false ≡ tableOk t
+unordered : (t : Table) → t .count ≤ 64 → everyTail headOk (entriesOf t) ≡ false → false ≡ tableOk t
 unfolding tableOk
 unordered t few h = rw (le-leb (t .count) 64 few, h)
 
@@ -60,7 +60,7 @@ returns-2 c =
 pair : (c : tie.After-is-before Inv-loop μ-loop Inv-loop2 μ-loop2)
     → let at = c .before .before .before .before .before .before .before in
     let t = at .before .before .args .t1 in
-    everyTail headOk (meaning t) ≡ (c .is-before .result && everyTail headOk (drop (at .loop .i + 1) (meaning t)))
+    everyTail headOk (entriesOf t) ≡ (c .is-before .result && everyTail headOk (drop (at .loop .i + 1) (entriesOf t)))
 pair c =
     let one = c .before .before .before in
     let at = one .before .before .before .before in
@@ -85,17 +85,17 @@ loop-again-2 c =
     let full = long (at .before .before) in (
       omega arith,
       at .loop .inv .1 ∙ last-step (t .count) i (t .entries) (omega arith) (omega arith) ∙ stands (c .before)
-          ∙ sym (tail-end headOk (meaning t) (i + 1) (simp length-take (omega arith))),
+          ∙ sym (tail-end headOk (entriesOf t) (i + 1) (simp length-take (omega arith))),
     )
 
 -- all entries in use passed
 ordered : (c : tie.After-loop Inv-loop μ-loop Inv-loop2 μ-loop2)
-    → everyTail headOk (meaning (c .before .before .before .args .t1)) ≡ true
+    → everyTail headOk (entriesOf (c .before .before .before .args .t1)) ≡ true
 ordered c =
     let at = c .before in
     let t = at .before .before .args .t1 in
     let full = long (at .before .before) in
-    at .loop .inv .1 ∙ tail-end headOk (meaning t) (at .loop .i) (simp length-take (omega arith))
+    at .loop .inv .1 ∙ tail-end headOk (entriesOf t) (at .loop .i) (simp length-take (omega arith))
 
 loop2-holds : tie.Need-loop2-holds Inv-loop μ-loop Inv-loop2 μ-loop2
 loop2-holds c =

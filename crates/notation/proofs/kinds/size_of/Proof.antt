@@ -1,49 +1,50 @@
--- Each arm decides the test of one kind, and the last one all of them. Assumes nothing.
+-- Each arm decides the test of one kind, and the last one all of them.
 use mathlib.Core.Path.{sym, ap}
 use borrow.Author.Tests.{ne-eqb}
 use borrow.Author.Needs.{needs}
-use Rattle.notation.specs.Kinds.{sizeOf}
+use Rattle.notation.specs.Kinds.{recordSize, ofKind}
+use Rattle.notation.specs.Fields.{widths}
 use Rattle.notation.proofs.kinds.size_of.Statement.{statement}
 use Rattle.notation.proofs.kinds.size_of.Tie as tie
 
 returns : tie.Need-returns
-unfolding sizeOf
-returns c = ap sizeOf (sym (c .match .keys1))
+unfolding recordSize ofKind widths
+returns c = ap recordSize (sym (c .match .keys1))
 
 returns-2 : tie.Need-returns-2
-unfolding sizeOf
-returns-2 c = ap sizeOf (sym (c .match .keys2))
+unfolding recordSize ofKind widths
+returns-2 c = ap recordSize (sym (c .match .keys2))
 
 returns-3 : tie.Need-returns-3
-unfolding sizeOf
-returns-3 c = ap sizeOf (sym (c .match .keys3))
+unfolding recordSize ofKind widths
+returns-3 c = ap recordSize (sym (c .match .keys3))
 
 returns-4 : tie.Need-returns-4
-unfolding sizeOf
-returns-4 c = ap sizeOf (sym (c .match .keys4))
+unfolding recordSize ofKind widths
+returns-4 c = ap recordSize (sym (c .match .keys4))
 
 returns-5 : tie.Need-returns-5
-unfolding sizeOf
-returns-5 c = ap sizeOf (sym (c .match .keys5))
+unfolding recordSize ofKind widths
+returns-5 c = ap recordSize (sym (c .match .keys5))
 
 returns-6 : tie.Need-returns-6
-unfolding sizeOf
-returns-6 c = ap sizeOf (sym (c .match .keys6))
+unfolding recordSize ofKind widths
+returns-6 c = ap recordSize (sym (c .match .keys6))
 
 returns-7 : tie.Need-returns-7
-unfolding sizeOf
-returns-7 c = ap sizeOf (sym (c .match .keys7))
+unfolding recordSize ofKind widths
+returns-7 c = ap recordSize (sym (c .match .keys7))
 
 returns-8 : tie.Need-returns-8
-unfolding sizeOf
-returns-8 c = ap sizeOf (sym (c .match .keys8))
+unfolding recordSize ofKind widths
+returns-8 c = ap recordSize (sym (c .match .keys8))
 
 returns-9 : tie.Need-returns-9
-unfolding sizeOf
-returns-9 c = ap sizeOf (sym (c .match .keys9))
+unfolding recordSize ofKind widths
+returns-9 c = ap recordSize (sym (c .match .keys9))
 
 returns-10 : tie.Need-returns-10
-unfolding sizeOf
+unfolding recordSize ofKind widths
 returns-10 c =
     let k = c .before .args .kind in
     let none = c .match .rest in

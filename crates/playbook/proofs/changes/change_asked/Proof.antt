@@ -7,9 +7,9 @@ use borrow.Author.Needs.{needs}
 use borrow.Author.Tests.{lt-ltb, le-ltb, not-true, not-false}
 use lib.Dec.{ltb}
 use Rattle.answer.specs.Ask.{firstNo}
+use Rattle.answer.specs.Limits.{switchCount}
 use Rattle.answer.proofs.Asked.{none-asked, refused, asked}
 use Rattle.flow.specs.Rules.{wellFormed}
-use Rattle.playbook.specs.Limits.{switchCount}
 use Rattle.playbook.proofs.changes.change_asked.Statement.{statement}
 use Rattle.playbook.proofs.changes.change_asked.Tie as tie
 

@@ -8,9 +8,10 @@ use borrow.Author.Needs.{needs}
 use borrow.Author.Tests.{le-leb, not-true, not-false}
 use lib.Dec.{leb}
 use lib.ListN.{take}
+use Rattle.answer.specs.Limits.{switchCount}
 use Rattle.lists.proofs.Members.{kinds-few}
 use Rattle.flow.specs.Rules.{sameKey}
-use Rattle.playbook.specs.Limits.{maxKeys, switchCount}
+use Rattle.playbook.specs.Limits.{maxKeys}
 use Rattle.playbook.specs.Books.{keysOn, kindsOn}
 use Rattle.playbook.specs.Storing.{fewKeysBelow}
 use Rattle.playbook.proofs.Gathered.{few-step}

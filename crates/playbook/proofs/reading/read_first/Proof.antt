@@ -10,10 +10,11 @@ use borrow.Author.Needs.{needs}
 use borrow.Author.Tests.{not-true, not-false}
 use lib.Dec.{ltb, eqb}
 use lib.ListN.{length, take, drop, getD, length-take, length-drop}
+use Rattle.answer.specs.Limits.{switchCount}
 use Rattle.lists.specs.Kinds.{among}
-use Rattle.playbook.specs.Limits.{maxPlans, maxChanges, maxOfPlan, maxKeys, switchCount}
-use Rattle.playbook.specs.Books.{Book, noPlans, emptyPlan, meaning, Trigger}
-use Rattle.playbook.specs.Records.{recordAt}
+use Rattle.playbook.specs.Limits.{maxPlans, maxChanges, maxOfPlan, maxKeys}
+use Rattle.playbook.specs.Books.{Book, noPlans, emptyPlan, bookOf, Trigger}
+use Rattle.playbook.specs.Asking.{recordAt}
 use Rattle.playbook.specs.declared.Change.{Change}
 use Rattle.playbook.specs.declared.Playbook.{Playbook}
 use Rattle.playbook.specs.declared.Record.the-variants.{Opens, Lists}
@@ -65,7 +66,7 @@ returns c =
     let at = turn .before .loop in
     c .refused .ensures
     ∙ sym (at .inv .so-far .2
-    ∙ record-next (bytes turn) (at .at) (meaning (at .p)) (turn .loop-test .taken) _
+    ∙ record-next (bytes turn) (at .at) (bookOf (at .p)) (turn .loop-test .taken) _
     (sym (found .record-at .ensures) ∙ c .before .before .k .given .1))
 
 returns-2 : tie.Need-returns-2 Inv-loop μ-loop
@@ -75,7 +76,7 @@ returns-2 c =
     let at = turn .before .loop in
     ap (λ (p : Playbook). record { answer = 0; used = at .at + 1; playbook = p }) (at .inv .so-far .1)
     ∙ sym (at .inv .so-far .2
-    ∙ record-next (bytes turn) (at .at) (meaning (at .p)) (turn .loop-test .taken) _
+    ∙ record-next (bytes turn) (at .at) (bookOf (at .p)) (turn .loop-test .taken) _
     (sym (found .record-at .ensures) ∙ c .enum-told .given .1))
 
 -- a plan: its record
@@ -319,7 +320,7 @@ returns-8 c =
     let at = c .before .before .loop in
     c .refused7 .ensures
     ∙ sym (at .inv .so-far .2 ∙ none-left (c .before .before .before .before .before .args .s .now) (at .at)
-    (meaning (at .p)) (c .before .loop-test .left))
+    (bookOf (at .p)) (c .before .loop-test .left))
 
 pub read-first-spec : {M : Type 1} → statement M
 read-first-spec =

@@ -12,7 +12,8 @@ use lib.ListN.{length, getD, drop, length-drop}
 use lib.Seq.{getD-drop}
 use Rattle.answer.proofs.Asked.{refused, asked}
 use Rattle.playbook.specs.Limits.{planKind, changeKind, endKind}
-use Rattle.playbook.specs.Records.{isKind, sizeOf, recordOf, recordAt}
+use Rattle.playbook.specs.Records.{isKind, sizeOf}
+use Rattle.playbook.specs.Asking.{recordOf, recordAt}
 use Rattle.playbook.specs.declared.Record.the-variants.{Lists, Refused}
 use Rattle.playbook.proofs.Past.{whole-record}
 use Rattle.playbook.proofs.records.record_at.Statement.{statement}

@@ -9,11 +9,12 @@ use borrow.Author.Needs.{needs}
 use borrow.Author.Tests.{ltb-true, not-true, not-false}
 use lib.Dec.{ltb}
 use lib.ListN.{length, take, drop, getD, length-take}
+use Rattle.answer.specs.Limits.{switchCount}
 use Rattle.answer.proofs.Bools.{and-parts}
 use Rattle.lists.specs.Arrays.{every}
 use Rattle.lists.proofs.Stores.{take-next}
 use Rattle.lists.proofs.Tails.{every-ahead, every-back, every-rest, every-end}
-use Rattle.playbook.specs.Limits.{maxChanges, switchCount}
+use Rattle.playbook.specs.Limits.{maxChanges}
 use Rattle.playbook.specs.Books.{emptyChange}
 use Rattle.playbook.specs.Storing.{changeOk, changeEmpty}
 use Rattle.playbook.specs.declared.Change.{Change}

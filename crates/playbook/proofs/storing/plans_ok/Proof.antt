@@ -9,9 +9,10 @@ use borrow.Author.Needs.{needs}
 use borrow.Author.Tests.{eq-eqb, ne-eqb, not-true, not-false}
 use lib.ListN.{length, take, drop, getD}
 use lib.Seq.{length-take-le, getD-take}
+use Rattle.answer.specs.Limits.{switchCount}
 use Rattle.lists.specs.Arrays.{every}
 use Rattle.lists.proofs.Tails.{every-rest, every-end}
-use Rattle.playbook.specs.Limits.{maxPlans, maxOfPlan, switchCount}
+use Rattle.playbook.specs.Limits.{maxPlans, maxOfPlan}
 use Rattle.playbook.specs.Books.{emptyPlan}
 use Rattle.playbook.specs.Storing.{spans, planEmpty}
 use Rattle.playbook.specs.declared.Plan.{Plan}

@@ -9,10 +9,11 @@ use borrow.Author.Needs.{needs}
 use borrow.Author.Tests.{le-leb, lt-leb, not-true, not-false}
 use lib.ListN.{length, take, drop}
 use lib.Seq.{length-take-le}
+use Rattle.answer.specs.Limits.{switchCount}
 use Rattle.lists.specs.Arrays.{every}
 use Rattle.lists.specs.Kinds.{different}
 use Rattle.lists.proofs.Stores.{length-mapped}
-use Rattle.playbook.specs.Limits.{maxPlans, maxChanges, switchCount}
+use Rattle.playbook.specs.Limits.{maxPlans, maxChanges}
 use Rattle.playbook.specs.Books.{triggerOf, sameTrigger}
 use Rattle.playbook.specs.Storing.{spans, changeOk, fewKeysBelow, bookOk, planEmpty, changeEmpty, storedOk}
 use Rattle.playbook.specs.declared.Playbook.{Playbook}

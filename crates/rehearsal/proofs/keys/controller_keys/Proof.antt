@@ -4,7 +4,7 @@ use mathlib.Core.Path.{refl}
 use Prim.Native.Nat.{_-_}
 use native.Mathlib.Omega.{arith}
 use borrow.Author.Needs.{needs}
-use Rattle.rehearsal.specs.Worlds.{keyOf}
+use Rattle.message.specs.Keys.{keyOf}
 use Rattle.rehearsal.proofs.Filling.{KeysBefore, first-key, next-key, last-key}
 use Rattle.rehearsal.proofs.keys.controller_keys.Statement.{statement}
 use Rattle.rehearsal.proofs.keys.controller_keys.Tie as tie

@@ -1,6 +1,6 @@
 -- `fault` meets its contract: one line, and the other places empty. Assumes nothing.
 use borrow.Author.Needs.{needs}
-use Rattle.rehearsal.proofs.Turns.{one-line}
+use Rattle.rehearsal.proofs.Telling.{one-line}
 use Rattle.rehearsal.proofs.scripts.fault.Statement.{statement}
 use Rattle.rehearsal.proofs.scripts.fault.Tie as tie
 

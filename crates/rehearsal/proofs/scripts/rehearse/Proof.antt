@@ -1,7 +1,7 @@
--- `rehearse` meets its contract: all lines are stored, and they are printed. Assumes nothing.
+-- `rehearse` meets its contract: all lines are stored, and they are printed.
 use mathlib.Core.Path.{ap, _∙_}
 use borrow.Author.Needs.{needs}
-use Rattle.rehearsal.specs.Lines.{meaning}
+use Rattle.rehearsal.specs.Storing.{linesIn}
 use Rattle.rehearsal.specs.Scripts.{linesOf}
 use Rattle.rehearsal.specs.declared.Lines.{Lines}
 use Rattle.rehearsal.proofs.Room.{few-lines, meaning-stored}
@@ -18,7 +18,7 @@ returns : tie.Need-returns
 returns c =
     let played = c .before .before .before .before in
     let input = played .before .before .before .args .input .now in
-    let told = ap meaning (played .play .ensures) ∙ meaning-stored (linesOf input) (few-lines input) in
+    let told = ap linesIn (played .play .ensures) ∙ meaning-stored (linesOf input) (few-lines input) in
     rw (← told) (c .before .before .print .ensures)
 
 pub rehearse-spec : {M : Type 1} → statement M

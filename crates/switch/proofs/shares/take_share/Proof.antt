@@ -5,7 +5,7 @@ use native.Mathlib.Omega.{arith}
 use borrow.Author.Needs.{needs}
 use Rattle.answer.specs.Ask.{firstNo}
 use Rattle.answer.proofs.Asked.{all-yes, stopped}
-use Rattle.switch.specs.Shares.{slotOf, shareQuestions, taken, takeShare}
+use Rattle.switch.specs.Shares.{slotOf, shareQuestions, accepted, takeShare}
 use Rattle.switch.proofs.Passing.{passes}
 use Rattle.switch.proofs.Within.{within}
 use Rattle.switch.proofs.shares.take_share.Statement.{statement}
@@ -26,7 +26,7 @@ passed c = sym (c .before .share-question .ensures) ∙ omega arith
 
 past : (c : tie.Else1)
     → let a = c .before .before .before .args in
-    takeShare (a .t1) (a .controller) (a .share) ≡ taken (a .t1) (a .controller) (a .share)
+    takeShare (a .t1) (a .controller) (a .share) ≡ accepted (a .t1) (a .controller) (a .share)
 unfolding takeShare
 past c = all-yes _ _ _ refl (passed c)
 

@@ -5,7 +5,8 @@ use mathlib.Core.Logic.{⊎-elim}
 use native.Mathlib.Omega.{arith}
 use lib.ListN.{length, take}
 use borrow.Author.Needs.{needs}
-use Rattle.tag.specs.Sha256.{K, schedule, Rounds}
+use Rattle.tag.specs.Sha256.{K, schedule}
+use Rattle.tag.specs.Unrolled.{Rounds}
 use Rattle.tag.proofs.Rounds.{Stands, Kept, eight-more, kept-extended, kept-whole, all-rounds}
 use Rattle.tag.proofs.block.rounds.Statement.{statement}
 use Rattle.tag.proofs.block.rounds.Tie as tie

@@ -1,11 +1,12 @@
--- The turns left fall. Assumes nothing.
-use Prim.Native.Nat.{_-_, _≤_}
+-- The turns left fall, and the sum keeps its bound.
+use Prim.Native.Nat.{_-_, _^_, _≤_, _<_}
 use borrow.Author.Needs.{needs}
 use Rattle.timed.proofs.switches.timed_forwarded.Statement.{statement}
 use Rattle.timed.proofs.switches.timed_forwarded.Tie as tie
 
 abbrev Inv-loop : tie.InvT-loop
-Inv-loop id n keys filling step times table address₀ sum₀ i₀ address sum i = i ≤ times
+Inv-loop id n keys filling step times table address₀ sum₀ i₀ address sum i =
+    (i ≤ times) × (sum < 2 ^ 45)
 
 abbrev μ-loop : tie.MeasureT-loop
 μ-loop id n keys filling step times table address₀ sum₀ i₀ address sum i = times - i

@@ -1,0 +1,2 @@
+-- The tables of records agree.
+pub mod Tables

@@ -1,0 +1,2 @@
+-- Laws of turns.
+pub mod Turning

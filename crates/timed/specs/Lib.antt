@@ -1,0 +1,3 @@
+-- What the timed loops leave in bytes and in their sums.
+pub mod Turns
+pub mod Bytes
