@@ -72,8 +72,9 @@ doubled() {
     done
 }
 
-# The longest playbook has 64 plans, here of 8 changes, and an end: 5,313 bytes. The longest script is 8,192 bytes, here
-# of 'deliver place 0', which is empty: 26.
+# The longest playbook has 64 plans of 3 bytes, 512 changes of 10, here 8 to a plan, and an end; the longest script is
+# 8,192 bytes, here of 'deliver place 0', which is empty: 26. A byte n stands before them.
+longest=$((1 + 64 * 3 + 512 * 10 + 1 + 8192))
 changes='\0022\0000\0002\0012\0000\0000\0000\0010\0000\0003'
 changes=$changes$changes$changes$changes$changes$changes$changes$changes
 {
@@ -91,13 +92,13 @@ cat "$work/book" "$work/script" >"$work/longest"
 { cat "$work/longest" && printf '\046'; } >"$work/longer"
 doubled 7
 cat "$work/book" "$work/script" >"$work/million"
-[ "$(wc -c <"$work/longest")" -eq 13506 ] && [ "$(wc -c <"$work/longer")" -eq 13507 ] &&
+[ "$(wc -c <"$work/longest")" -eq $longest ] && [ "$(wc -c <"$work/longer")" -eq $((longest + 1)) ] &&
     [ "$(wc -c <"$work/million")" -gt 1000000 ]
 ended $? 'the long inputs are not as long as they should be'
 awk 'BEGIN { for (i = 1; i <= 4096; i++) print i, 26, 0 }' >"$work/expected"
-prints 'an input of 13,506 bytes' "$work/expected" <"$work/longest"
+prints "an input of $longest bytes" "$work/expected" <"$work/longest"
 echo '0 28 0' >"$work/expected"
-prints 'an input of 13,507 bytes' "$work/expected" <"$work/longer"
+prints "an input of $((longest + 1)) bytes" "$work/expected" <"$work/longer"
 prints 'an input of a million bytes' "$work/expected" <"$work/million"
 cat "$work/million" >"$work/pipe" 2>/dev/null &
 prints 'a million bytes through a pipe' "$work/expected" <"$work/pipe"
