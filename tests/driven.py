@@ -1,5 +1,5 @@
 """The calls of tests/drills.py and tests/duties.py made by the definitions, run as text: each gives the line that the
-model has for it. A call is a letter with its bytes, as the program drive takes them (docs/DRIVE.md)."""
+model has for it. A call is a letter with its bytes, as the program drive takes them (tests/DRIVE.md)."""
 import struct
 
 from evaluate import Built, stored

@@ -6,7 +6,7 @@ import struct
 import sys
 
 LARGEST = 4294967295
-# Bytes in a key, in a tag, and in the longest frame of the test programs (docs/DRIVE.md).
+# Bytes in a key, in a tag, and in the longest frame of the test programs (tests/DRIVE.md).
 KEY_LENGTH, TAG_LENGTH, FRAME = 32, 16, 64
 
 

@@ -1,11 +1,12 @@
 #!/bin/sh
 # The program rehearse prints the expected lines for every case, and for inputs that come in pieces, are empty, too long
-# or not there at all; no case is lost; and bin/rehearse builds, rehearses and refuses as it says.
+# or not there at all; no case is lost; and the commands of bin/ tell of texts and bytes as they say. (tests/statuses.sh
+# tries them with stand-ins for the programs.)
 set -u
 script=rehearse.sh
 . tests/counting
 . tests/inputs
-there assemble rehearse
+there assemble disassemble explain picture rehearse survey
 program=$programs/rehearse
 cases=$(pwd)/tests/cases
 command=$(pwd)/bin/rehearse
@@ -111,23 +112,6 @@ ended $? 'the program does not end by itself when standard input is closed'
 
 # bin/rehearse
 
-# tried NAME STATUS EXPECTED SAYS COMMAND..: the command ends with the status and prints the file EXPECTED; its standard
-# error matches the pattern SAYS; where the status is 2 or 3 it is one line, beside the one on the input's form.
-tried() {
-    name=$1 status=$2 expected=$3 says=$4
-    shift 4
-    "$@" >"$work/printed" 2>"$work/errors"
-    got=$?
-    said=$(cat "$work/errors")
-    case $said in
-    $says)
-        cmp "$expected" "$work/printed" && [ $got -eq "$status" ] &&
-            { [ $got -lt 2 ] || [ "$(grep -c -v ' is in ' "$work/errors")" -eq 1 ]; }
-        ;;
-    *) false ;;
-    esac
-    ended $? "bin/, $name: status $got, and it says: $said"
-}
 in_folder() {
     (cd "$1" && shift && "$@")
 }
@@ -135,14 +119,6 @@ tried 'a file' 0 "$cases/00001.out" '*00001.in is in bytes' "$command" "$first"
 tried 'a file beside it, from another folder' 0 "$cases/00001.out" '*: 00001.in is in bytes' \
     in_folder "$inputs" "$command" 00001.in
 tried 'standard input' 0 "$cases/00001.out" '*standard input is in bytes' "$command" - <"$first"
-tried 'no file' 2 /dev/null '*usage: *' "$command"
-tried 'two files' 2 /dev/null '*usage: *' "$command" "$first" "$inputs/00004.in"
-tried 'an unknown option' 2 /dev/null '*no option --explan;*' "$command" --explan "$first"
-tried 'a picture without its file' 2 /dev/null '*usage: *' "$command" "$first" --picture
-tried 'a file that is not there' 2 /dev/null '*cannot read *nowhere' "$command" "$work/nowhere"
-tried 'a folder' 2 /dev/null '*cannot read *' "$command" "$work"
-"$command" --help 2>"$work/errors" | grep -q '^usage: bin/rehearse ' && [ ! -s "$work/errors" ]
-ended $? 'bin/rehearse --help does not help'
 
 # The notation, and what is printed of it
 
@@ -152,54 +128,101 @@ bytes=$(pwd)/examples/$evening.bin
 tried 'the notation' 0 "$cases/$evening.out" "*$evening.txt is in the notation" "$command" "$text"
 tried 'the notation from standard input' 0 "$cases/$evening.out" '*standard input is in the notation' \
     "$command" - <"$text"
-tried 'an explanation' 0 "examples/$evening.explained.txt" '*notation' "$command" --explain "$text"
 tried 'an explanation of bytes, the option last' 0 "examples/$evening.explained.txt" '*in bytes' "$command" \
     "$bytes" --explain
 tried 'a picture' 0 "$cases/$evening.out" '*notation' "$command" --picture "$work/evening.svg" "$text"
 cmp "examples/$evening.svg" "$work/evening.svg"
 ended $? 'bin/rehearse --picture writes another picture'
-tried 'a picture and an explanation' 0 "examples/$evening.explained.txt" '*notation' "$command" --explain \
+plain <"$text" >"$work/plain"
+"$command" --expand "$text" 2>/dev/null | plain | cmp - "$work/plain"
+ended $? 'bin/rehearse --expand prints another text'
+
+# An explanation of a text has the line of each record. The evening's records stand one to a line, and its script begins
+# behind the line `end`.
+grep -n '^[a-z]' "$text" | sed '1,/:end/d; s/:.*//' >"$work/numbers"
+awk -v numbers="$work/numbers" '
+    /^[0-9]+ [0-9]+ [0-9]+  / { getline n <numbers; printf "line %s: ", n }
+    { print }' "examples/$evening.explained.txt" >"$work/explained"
+[ "$(grep -c '^line ' "$work/explained")" -eq "$(wc -l <"$cases/$evening.out")" ]
+ended $? 'the expected explanation lacks lines'
+tried 'an explanation' 0 "$work/explained" '*notation' "$command" --explain "$text"
+tried 'a picture and an explanation' 0 "$work/explained" '*notation' "$command" --explain \
     --picture "$work/evening.svg" "$text"
-tried 'a picture where none can be written' 2 /dev/null '*cannot write *' "$command" --picture "$work" "$text"
+
+# Faults, with their lines
+
 sed 's/^end/emd/' "$text" >"$work/faulty.txt"
-tried 'a faulty text' 3 /dev/null '*faulty.txt, line 13: expected plan, change, end, *' "$command" "$work/faulty.txt"
-# A playbook that is refused is told with the line of its record, where it is a record's fault.
+tried 'a faulty text' 3 /dev/null '*faulty.txt:13: expected plan, change, end, *found emd*' \
+    in_folder "$work" "$command" faulty.txt
 echo '0 15 0' >"$work/expected"
 sed 's/10.1.0.0\(.16 port 3\)/10.1.0.1\1/' "$text" >"$work/refused.txt"
-tried 'a rule that is not well formed' 0 "$work/expected" '*notation*refused.txt, line 10: refused, a length above *' \
+tried 'a rule that is not well formed' 4 "$work/expected" '*notation*refused.txt:10: refused, *' \
     "$command" "$work/refused.txt"
+tried 'a rule that is not well formed, --check' 4 /dev/null '*refused.txt:10: refused, *' \
+    "$command" --check "$work/refused.txt"
+"$programs/assemble" <"$work/refused.txt" >"$work/refused.in" 2>/dev/null
+"$programs/rehearse" <"$work/refused.in" | cmp - "$work/expected"
+ended $? 'bin/rehearse and the program rehearse tell a refused playbook otherwise'
+tried 'a rule that is not well formed, in bytes' 4 "$work/expected" \
+    '*in bytes*refused.in: record 2 of the playbook: refused, *' "$command" "$work/refused.in"
+"$programs/explain" <"$work/refused.in" >"$work/explained"
+tried 'a rule that is not well formed, explained' 4 "$work/explained" '*refused.txt:10: refused, *' \
+    "$command" --explain "$work/refused.txt"
 echo '0 31 0' >"$work/expected"
 sed '/^end/d' "$text" >"$work/refused.txt"
-tried 'a playbook without its end' 0 "$work/expected" '*notation*refused.txt, line 15: refused, a playbook has *' \
+tried 'a playbook without its end' 4 "$work/expected" '*notation*refused.txt:15: refused, *' \
     "$command" "$work/refused.txt"
 echo '0 30 0' >"$work/expected"
 echo 'controllers 4' >"$work/refused.txt"
-tried 'a playbook that is not there' 0 "$work/expected" '*notation*refused.txt: refused, the input stops before *' \
+tried 'a playbook that is not there' 4 "$work/expected" '*notation*refused.txt: refused, *' \
     "$command" "$work/refused.txt"
+echo '0 20 0' >"$work/expected"
+printf 'controllers 17\nend\n' >"$work/refused.txt"
+tried 'too many controllers' 4 "$work/expected" '*notation*refused.txt: refused, *' "$command" "$work/refused.txt"
 echo '1 31 0' >"$work/expected"
 printf 'controllers 4 # four\n\nend\n\n# the script\nplan switch 1 cause 1\nend\n' >"$work/refused.txt"
-tried 'a plan in the script' 0 "$work/expected" '*notation*refused.txt, line 6: the script stops here*' \
+tried 'a plan in the script' 4 "$work/expected" '*notation*refused.txt:6: the script stops here, *no record*' \
     "$command" "$work/refused.txt"
 # The same with a mark before it and with carriage returns, as other systems write text.
 { printf '\357\273\277' && sed "s/\$/$(printf '\r')/" "$work/refused.txt"; } >"$work/foreign.txt"
-tried 'a plan in a foreign script' 0 "$work/expected" '*notation*foreign.txt, line 6: the script stops here*' \
+tried 'a plan in a foreign script' 4 "$work/expected" '*notation*foreign.txt:6: the script stops here, *' \
     "$command" "$work/foreign.txt"
+echo '1 30 0' >"$work/expected"
+printf 'controllers 4\nend\n\nbytes 22 00\n' >"$work/refused.txt"
+tried 'a record that is cut' 4 "$work/expected" '*notation*refused.txt:4: the script stops here, *ends within*' \
+    "$command" "$work/refused.txt"
 printf 'controllers 4\r\n\r\nplan switch 1 cause 1\r\n\r\nsend controller 0 switch 1\r\n' >"$work/foreign.txt"
 echo '0 31 0' >"$work/expected"
-tried 'a foreign playbook without its end' 0 "$work/expected" '*notation*foreign.txt, line 5: refused, a playbook *' \
+tried 'a foreign playbook without its end' 4 "$work/expected" '*notation*foreign.txt:5: refused, *' \
     "$command" "$work/foreign.txt"
+
+# --check and --strict
+
+"$command" --check "$text" >"$work/printed" 2>/dev/null && [ -s "$work/printed" ] &&
+    ! grep -q '^[0-9]* [0-9]*$' "$work/printed"
+ended $? 'bin/rehearse --check tells nothing of a good playbook, or the numbers that it is for itself'
+# The second evening has records 14 and 23 refused by 17, 16 by 18 and 17 by 14.
+grep -n '^[a-z]' "$text" | sed '1,/:end/d; s/:.*//' | sed -n '14p; 16p; 17p; 23p' | tr '\n' ' ' >"$work/lines"
+read -r a b c d <"$work/lines"
+says="*:$a: record 14 is refused by 17*:$b: record 16 is refused by 18*:$c: record 17 is refused by 14"
+tried '--strict' 4 "$cases/$evening.out" "$says*:$d: record 23 is refused by 17" "$command" --strict "$text"
+
 # Every case has the form that it has: those without a visible character, or with a byte that no text has, are bytes.
+# A case that is refused before its script, or whose script stops, has status 4.
 for input in "$inputs"/*.in; do
     name=$(basename "$input" .in)
-    tried "case $name" 0 "$cases/$name.out" '*is in bytes' "$command" "$input"
+    status=0
+    case $(tail -n 1 "$cases/$name.out") in
+    '0 '* | *' 30 0' | *' 31 0') status=4 ;;
+    esac
+    tried "case $name" $status "$cases/$name.out" '*is in bytes*' "$command" "$input"
 done
 
 # assemble and disassemble
 
 tried 'assemble' 0 "$bytes" '' bin/assemble "$text"
-tried 'assemble, a faulty text' 3 /dev/null '*faulty.txt, line 13: expected plan, change, end, *' \
+tried 'assemble, a faulty text' 3 /dev/null '*faulty.txt:13: expected plan, change, end, *' \
     bin/assemble "$work/faulty.txt"
-tried 'assemble, no file' 2 /dev/null '*usage: *' bin/assemble
 bin/disassemble "$bytes" >"$work/told.txt" 2>"$work/errors"
 [ ! -s "$work/errors" ]
 ended $? 'bin/disassemble says something on standard error'
@@ -208,46 +231,5 @@ tried 'disassemble, too many bytes' 3 /dev/null '*million: expected at most 1638
     bin/disassemble "$work/million"
 bin/disassemble "$text" 2>&1 >"$work/told.txt" | grep -q 'txt looks like text, and is taken as bytes$'
 ended $? 'bin/disassemble says nothing of a text'
-for name in assemble disassemble; do
-    "bin/$name" --help 2>"$work/errors" | grep -q "^usage: bin/$name FILE\$" && [ ! -s "$work/errors" ]
-    ended $? "bin/$name --help does not help"
-done
-
-# A tree of its own, with a stand-in for rt, which builds programs that print what they read.
-tree="$work/a tree"
-mkdir -p "$tree/bin" "$tree/crates/rehearse" "$work/tools" "$work/kit" || exit 1
-cp "$command" bin/programs.sh "$tree/bin"
-echo 'rehearse:' >"$tree/crates.txt"
-for tool in cat chmod cp dirname find mkdir mv rm sh tail touch tr wc; do
-    ln -s "$(command -v $tool)" "$work/tools/$tool"
-done
-printf '#!/bin/sh\nexec cat\n' >"$work/kit/program"
-cat >"$work/kit/rt" <<'RT'
-#!/bin/sh
-cat >/dev/null
-echo "rt: $*"
-[ "$*" = 'check assemble rehearse' ] && [ -f crates.txt ] && mkdir -p target/bin &&
-    cp "${0%/*}/program" target/bin/assemble && cp "${0%/*}/program" target/bin/rehearse
-RT
-chmod +x "$work/kit/program" "$work/kit/rt"
-here=$tree/bin/rehearse
-echo 'a rehearsal' >"$work/input"
-without_kit() {
-    PATH="$work/tools" "$@"
-}
-with_kit() {
-    PATH="$work/kit:$work/tools" "$@"
-}
-tried 'no kit' 2 /dev/null '*no rt command*' without_kit "$here" "$work/input"
-tried 'a build' 0 "$work/input" '*notation' with_kit "$here" "$work/input"
-find "$tree/crates" "$tree/crates.txt" -exec touch -t 200001010000 {} +
-tried 'no kit, and nothing to build' 0 "$work/input" '*notation' without_kit "$here" "$work/input"
-touch -t 200001010000 "$tree/target/bin/rehearse"
-touch "$tree/crates/rehearse/main.rt"
-tried 'no kit, and a source that changed' 2 /dev/null '*no rt command*' without_kit "$here" "$work/input"
-tried 'a build before standard input is read' 0 "$work/input" '*notation' with_kit "$here" - <"$work/input"
-printf '#!/bin/sh\necho "a proof fails"\nexit 1\n' >"$work/kit/rt"
-touch -t 200001010000 "$tree/target/bin/rehearse"
-tried 'a build that fails' 1 /dev/null '*a proof fails*not be built' with_kit "$here" "$work/input"
 
 finish

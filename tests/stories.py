@@ -1,5 +1,5 @@
-"""Explanations of rehearsals, worked out from document 01 with Python's own library: the playbook, each record in words
-beside its line, and the ends after the last one.
+"""Explanations of rehearsals, computed from document 01 with Python's own library: the playbook, each record in words
+beside its line, the ends after the last one, and the verdict (tests/verdict.py).
 
     python3 tests/stories.py FILE                   the explanation of an input
     python3 tests/stories.py compare PROGRAM FILE.. which inputs the program explains otherwise
@@ -10,15 +10,20 @@ import struct
 import subprocess
 import sys
 
-from paper import PLAYBOOK, SCRIPT, SHARE, is_sealed, key, read_first, record, record_at
+import surveys
+from paper import SCRIPT, SHARE, is_sealed, key, record_at
 from rehearsals import begun
+from verdict import named, verdict
+
+# So many bytes are read: the longest input that can be rehearsed, and one more.
+ROOM = 13507
 
 # Of a record.
 MEANINGS = {
     11: "it is no share",
     13: "it is for another switch",
     14: "its tag does not match",
-    15: "a length above 32, or bits of the address past its length",
+    15: surveys.MALFORMED,
     16: "too late, its number is not above the last applied",
     17: "its number is below that of the share held from this controller",
     18: "this controller has asked for another rule under this number",
@@ -29,19 +34,6 @@ MEANINGS = {
     29: "the places are 0 to 63",
     30: "the last record is cut short",
     31: "a script has no such record",
-}
-# Of an input before its script.
-FAULTS = {
-    12: "the switches are 0 to 15",
-    15: MEANINGS[15],
-    20: "there can be 1 to 16 controllers",
-    28: "the script is longer than 8192 bytes",
-    30: "the input stops before the playbook's end",
-    31: "a playbook has plans and changes only, and ends with end",
-    34: "a change stands before any plan",
-    35: "two plans have the same switch and cause",
-    36: "more than 64 plans, 512 changes, or 32 changes in a plan",
-    37: "more than 64 different prefixes with lengths on one switch",
 }
 DONE = {"report": "taken", "keep": "kept"}
 
@@ -54,6 +46,10 @@ def route(rule):
 
 def undone(count):
     return "%s undone change%s" % (count or "no", "s" if count > 1 else "")
+
+
+def at(switch, last):
+    return "switch %d %s" % (switch, "is at change %d" % last if last else "has made no change")
 
 
 def fields(share):
@@ -185,7 +181,7 @@ def words(world, s):
     if known and call in ("decide", "report"):
         told += "; controller %d has %s" % (controller, undone(figure))
     elif known:
-        told += "; switch %d is at change %d" % (switch, figure)
+        told += "; " + at(switch, figure)
     if share:
         told += wished(world, call, answer, switch, share, before, message)
     return length, answer, figure, told
@@ -193,16 +189,25 @@ def words(world, s):
 
 def fault(s, answer):
     """A fault before the script; of a playbook, the first record that leaves no good beginning."""
-    told = "0 %d 0  before the script: refused, %s" % (answer, FAULTS[answer])
-    if answer in (20, 28, 30):
-        return told
-    book, at, count = s[1:], 0, 0
-    while True:
-        found = record_at(PLAYBOOK, book[at:])
-        at += found[1] if found != 31 else 1
-        count += 1
-        if read_first(book[:at] + record("end"))[0] != 0:
-            return told + ", in the playbook's record %d" % count
+    told = "0 %d 0  before the script: refused, %s" % (answer, surveys.words(s[:ROOM], answer, ROOM))
+    return told + (", in the playbook's record %d" % surveys.ordinal(s, answer) if surveys.has_record(answer) else "")
+
+
+def left(world, end):
+    """A controller's undone changes; those that its switch has made already say so."""
+    made = [number <= world.switches[switch].last for number, _, _, switch, _ in end.undone()]
+    lines = ["controller %d has %s" % (end.id, undone(end.count))]
+    if not end.count and not any(end.serials):
+        lines[0] += ", and took no decision"
+    if made == [True]:
+        lines[0] += ", which is made"
+    elif any(made):
+        lines[0] += ", %s of them made" % ("all" if all(made) else sum(made))
+    lines[0] += ":" if made else ""
+    for is_made, (number, _, flow, switch, rule) in zip(made, end.undone()):
+        told = ": made; controller %d was not told" % end.id if is_made else ""
+        lines.append("  change %d, %s, on switch %d, flow %d%s" % (number, route(rule), switch, flow, told))
+    return lines
 
 
 def ends(world):
@@ -210,23 +215,20 @@ def ends(world):
     lines, fresh = [], []
     for end in world.switches:
         if end.last == 0 and not any(end.slots):
-            fresh.append(str(end.id))
+            fresh.append(end.id)
             continue
-        lines.append("switch %d is at change %d%s" % (end.id, end.last, ":" if end.entries else ", with no entry"))
+        lines.append(at(end.id, end.last))
+        if end.last:
+            lines[-1] += ":" if end.entries else ", with no entry"
         lines += ["  " + route(entry) for entry in end.entries]
         lines += [
             "  holds from controller %d: change %d, %s" % (c, slot[0], route(slot[1]))
             for c, slot in enumerate(end.slots) if slot
         ]
     if fresh:
-        lines.append("at change 0, with no entry, are switches " + " ".join(fresh))
+        lines.append("no change was made on " + named("switch", fresh))
     for end in world.controllers:
-        idle = ", and took no decision" if not end.count and not any(end.serials) else ""
-        lines.append("controller %d has %s%s" % (end.id, undone(end.count), ":" if end.count else idle))
-        lines += [
-            "  change %d, %s, on switch %d, flow %d" % (number, route(rule), switch, flow)
-            for number, _, flow, switch, rule in end.undone()
-        ]
+        lines += left(world, end)
     return lines
 
 
@@ -245,16 +247,13 @@ def explain(s):
     quorum = (world.n - 1) // 3 + 1
     lines = ["%d controller%s; a change needs %d of them" % (world.n, "s" if world.n > 1 else "", quorum), ""]
     lines += plans(world.controllers[0].book) + [""]
-    count, refused = 0, []
+    count = 0
     while script:
         count += 1
         length, answer, figure, told = words(world, script)
         lines.append("%d %d %d  %s" % (count, answer, figure, told))
-        refused += [str(count)] * (answer > 2)
         script = script[length:] if length else b""
-    if refused:
-        lines += ["", "refused are records " + " ".join(refused)]
-    return lines + [""] + ends(world)
+    return lines + [""] + ends(world) + [""] + verdict(s)
 
 
 def text(name):
@@ -272,7 +271,7 @@ def main():
     for name in sys.argv[3:]:
         with open(name, "rb") as file:
             if subprocess.run([sys.argv[2]], stdin=file, stdout=subprocess.PIPE).stdout != text(name):
-                wrong.append("%s is explained otherwise than worked out" % name)
+                wrong.append("%s is explained otherwise than computed" % name)
     sys.exit("\n".join(wrong) or 0)
 
 

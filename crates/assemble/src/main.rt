@@ -1,34 +1,56 @@
 // Assembles the notation of a rehearsal (docs/NOTATION.md): reads text from standard input whole and writes the bytes
-// that it stands for to standard output, or a line on the first fault to standard error.
+// that it stands for to standard output and the map of records to lines to standard error, or a line on the first fault
+// to standard error alone.
+mod errors;
 mod faults;
 mod fields;
+mod hints;
+mod known;
+mod near;
 mod numbers;
+mod output;
 mod parse;
 mod records;
+mod spread;
 mod tags;
+mod telling;
 mod words;
 
 ghost use mathlib.Core.Path.{_≡_};
 ghost use Prim.Native.Nat.{_+_, _-_, _≤_};
 ghost use lib.ListN.{length};
 ghost use Rattle.notation.specs.Limits.{inputLimit, textLimit};
-use faults::Fault;
-use faults::is_none;
-use faults::tell;
+use errors::warn;
+use known::Known;
 use libc::STDIN_FILENO;
 use libc::STDOUT_FILENO;
 use lists::behind;
 use lists::byte_at;
 use lists::front;
 use notation::INPUT;
-use notation::LINE;
 use notation::TEXT;
-use parse::Before;
+use output::MAP;
+use output::Made;
+use output::nothing_made;
+use parse::Parse;
+use parse::is_fine;
 use records::record_of;
+use spread::put_line;
+use telling::tell;
+use telling::tell_most;
 use words::find;
+use words::has_words;
+use words::uncommented;
 
 // The longest text, and one byte further to tell a longer one.
 const SPACE: usize = TEXT + 1;
+
+// How far a text is read: what its lines have said, what they stand for, and whether a fault was told.
+struct Progress {
+    known: Known,
+    made: Made,
+    faulty: bool,
+}
 
 fn for_text() -> [u8; SPACE]
     ensures { λ r. ⌜ textLimit + 1 ≡ length r ⌝ }
@@ -40,6 +62,10 @@ fn for_input() -> [u8; INPUT]
     ensures { λ r. ⌜ inputLimit ≡ length r ⌝ }
 {
     [0u8; INPUT]
+}
+
+fn for_map() -> [u8; MAP] {
+    [0u8; MAP]
 }
 
 fn ends_at(b: u8) -> usize
@@ -74,51 +100,90 @@ fn with_feed(n: usize, left: usize) -> usize
     if n < left { n + 1 } else { left }
 }
 
-// The first n bytes of a record, stored from a place on as far as there is room.
-fn put(input: &mut [u8; INPUT], at: usize, bytes: [u8; LINE], n: usize) {
-    let mut i: usize = 0;
-    while i < n {
-        if i < LINE {
-            if at < INPUT - i {
-                input[at + i] = bytes[i];
-            }
-        }
-        i += 1;
+fn finish(input: &[u8; INPUT], map: &[u8; MAP], made: Made) {
+    if io::write_all(STDOUT_FILENO, front(input, made.count)) {
+        warn(front(map, made.mapped));
+    } else {
+        warn(b"not all of the output could be written\n");
     }
 }
 
-fn write(input: &[u8; INPUT], n: usize) {
-    io::write_all(STDOUT_FILENO, front(input, n));
+fn begun() -> Progress {
+    Progress {
+        known: known::nothing(),
+        made: nothing_made(),
+        faulty: false,
+    }
+}
+
+fn stopped(progress: Progress) -> Progress {
+    let mut next = progress;
+    next.faulty = true;
+    next
+}
+
+// After a line with a record, whose bytes may be too many.
+fn after_record(
+    input: &mut [u8; INPUT],
+    map: &mut [u8; MAP],
+    progress: Progress,
+    p: Parse,
+    line: usize,
+) -> Progress {
+    let known = progress.known;
+    let made = progress.made;
+    let more = put_line(input, map, made, p, known, line);
+    if more.full {
+        tell_most(line, INPUT, b" bytes in all");
+    }
+    Progress {
+        known: known::after(known, p),
+        made: more,
+        faulty: more.full,
+    }
+}
+
+// After a line with words.
+fn after_words(
+    input: &mut [u8; INPUT],
+    map: &mut [u8; MAP],
+    progress: Progress,
+    words: &[u8],
+    line: usize,
+) -> Progress {
+    let known = progress.known;
+    let before = known.before;
+    let p = record_of(words, before);
+    if !is_fine(p) {
+        tell(line, words, p);
+        return stopped(progress);
+    }
+    after_record(input, map, progress, p, line)
 }
 
 fn assemble(text: &[u8]) {
     let mut input = for_input();
-    let mut count: usize = 0;
-    let mut line: usize = 1;
-    let mut before = Before::Nothing;
+    let mut map = for_map();
+    let mut progress = begun();
+    let mut line: usize = 0;
     let mut rest = text;
     while 0 < rest.len() {
-        let n = find(rest, b'\n');
-        let p = record_of(&rest[0..n], before);
-        let fault = p.fault;
-        if !is_none(fault) {
-            tell(line, fault);
-            return;
-        }
-        let more = p.count;
-        if INPUT - count < more {
-            tell(line, Fault::Input);
-            return;
-        }
-        let bytes = p.bytes;
-        put(&mut input, count, bytes, more);
-        count += more;
-        before = p.before;
         line += 1;
+        let n = find(rest, b'\n');
+        let words = uncommented(&rest[0..n]);
         let whole = with_feed(n, rest.len());
         rest = &rest[whole..];
+        if !has_words(words) {
+            continue;
+        }
+        let next = after_words(&mut input, &mut map, progress, words, line);
+        if next.faulty {
+            return;
+        }
+        progress = next;
     }
-    write(&input, count);
+    let made = progress.made;
+    finish(&input, &map, made);
 }
 
 fn main() {
@@ -126,7 +191,7 @@ fn main() {
     let n = io::read_full(STDIN_FILENO, &mut space);
     let text = &space[..n];
     if n == SPACE {
-        tell(1 + ends_in(text, TEXT), Fault::Text);
+        tell_most(1 + ends_in(text, TEXT), TEXT, b" bytes of text");
     } else if is_marked(text) {
         assemble(behind(text, 3));
     } else {

@@ -1,5 +1,6 @@
 // Numbers with their names, and rules, read from a line.
 use crate::faults::Fault;
+use crate::parse::Before;
 use crate::parse::Parse;
 use crate::parse::faulted;
 use crate::parse::is_fine;
@@ -14,6 +15,7 @@ use crate::words::address_of;
 use crate::words::decimal;
 use crate::words::word;
 use notation::Field;
+use notation::kinds;
 
 // The name of a field.
 pub(crate) fn named(line: &[u8], p: Parse, field: Field) -> Parse {
@@ -54,9 +56,58 @@ pub(crate) fn small(line: &[u8], p: Parse) -> Parse {
     with_u8(number(line, p, 0, 255))
 }
 
+// Whether `all` may stand for this field of the record that is read.
+fn takes_all(p: Parse, field: Field) -> bool {
+    let bytes = p.bytes;
+    let kind = bytes[0];
+    match field {
+        Field::Controller => kind == kinds::DECIDE || kind == kinds::SEND || kind == kinds::REPORT,
+        Field::Switch => kind == kinds::SEND || kind == kinds::REPORT,
+        _ => false,
+    }
+}
+
+// `all` for a controller or a switch; a 0 keeps its place in the record.
+fn all_of(line: &[u8], p: Parse, field: Field) -> Parse {
+    let mut q = with_byte(passed(line, p), 0);
+    match field {
+        Field::Controller => q.controllers = true,
+        _ => q.switches = true,
+    }
+    q
+}
+
+fn all(line: &[u8], p: Parse, field: Field) -> Parse {
+    let before = p.before;
+    match before {
+        Before::Script => all_of(line, p, field),
+        _ => faulted(p, Fault::Early),
+    }
+}
+
+fn small_or_all(line: &[u8], p: Parse, field: Field) -> Parse {
+    if !is_fine(p) {
+        return p;
+    }
+    if is_next(line, p, b"all") {
+        return all(line, p, field);
+    }
+    let q = small(line, p);
+    if is_fine(q) {
+        q
+    } else {
+        faulted(p, Fault::NumberOrAll)
+    }
+}
+
 // Numbers of one and of four bytes with their names.
 pub(crate) fn small_field(line: &[u8], p: Parse, field: Field) -> Parse {
-    small(line, named(line, p, field))
+    let q = named(line, p, field);
+    if takes_all(q, field) {
+        small_or_all(line, q, field)
+    } else {
+        small(line, q)
+    }
 }
 
 pub(crate) fn wide_field(line: &[u8], p: Parse, field: Field) -> Parse {

@@ -8,10 +8,11 @@ use crate::words::word;
 use lists::same;
 use notation::LINE;
 
-// What the records before allow next: the first of all, any, only further bytes, or none.
+// What the records before allow next: the first of all, any but shorthand, any, only further bytes, or none.
 pub(crate) enum Before {
     Nothing,
-    Records,
+    Playbook,
+    Script,
     FullBytes,
     Bytes,
 }
@@ -25,6 +26,10 @@ pub(crate) struct Parse {
     pub(crate) value: u32,
     // What the record leaves allowed.
     pub(crate) before: Before,
+    // Whether the line stands for all controllers, for all switches, and for a full round.
+    pub(crate) controllers: bool,
+    pub(crate) switches: bool,
+    pub(crate) round: bool,
     pub(crate) fault: Fault,
     // The fault that is told where the rest of the line has none.
     pub(crate) late: Fault,
@@ -37,6 +42,9 @@ pub(crate) fn begun(before: Before) -> Parse {
         count: 0,
         value: 0,
         before: before,
+        controllers: false,
+        switches: false,
+        round: false,
         fault: Fault::None,
         late: Fault::None,
     }
@@ -57,6 +65,9 @@ pub(crate) fn faulted(p: Parse, fault: Fault) -> Parse {
         count: p.count,
         value: p.value,
         before: before,
+        controllers: p.controllers,
+        switches: p.switches,
+        round: p.round,
         fault: fault,
         late: late,
     }
@@ -72,6 +83,9 @@ pub(crate) fn doubted(p: Parse, late: Fault) -> Parse {
         count: p.count,
         value: p.value,
         before: before,
+        controllers: p.controllers,
+        switches: p.switches,
+        round: p.round,
         fault: fault,
         late: late,
     }
@@ -87,6 +101,9 @@ pub(crate) fn leaving(p: Parse, before: Before) -> Parse {
         count: p.count,
         value: p.value,
         before: before,
+        controllers: p.controllers,
+        switches: p.switches,
+        round: p.round,
         fault: fault,
         late: late,
     }

@@ -15,13 +15,13 @@ use crate::parse::leaving;
 use crate::parse::passed;
 use crate::parse::settled;
 use crate::parse::with_byte;
-use crate::words::uncommented;
 use crate::words::word;
 use notation::LINE;
+use notation::kinds;
 
 fn controllers(line: &[u8], p: Parse) -> Parse {
     if is_next(line, p, b"controllers") {
-        return leaving(small(line, passed(line, p)), Before::Records);
+        return leaving(small(line, passed(line, p)), Before::Playbook);
     }
     faulted(p, Fault::Controllers)
 }
@@ -70,34 +70,60 @@ fn further_bytes(line: &[u8], p: Parse) -> Parse {
     faulted(p, Fault::NoRecord)
 }
 
+// A full round: its reports here, and `round` for what it sends after them.
+fn round(line: &[u8], p: Parse) -> Parse {
+    let before = p.before;
+    match before {
+        Before::Script => {
+            let kind = with_byte(passed(line, p), kinds::REPORT);
+            let mut q = with_byte(with_byte(kind, 0), 0);
+            q.controllers = true;
+            q.switches = true;
+            q.round = true;
+            q
+        }
+        _ => faulted(p, Fault::Early),
+    }
+}
+
+// A record of a kind; the script begins behind an end.
+fn of_kind(line: &[u8], p: Parse, kind: u8) -> Parse {
+    let q = fields(line, with_byte(passed(line, p), kind), kind);
+    if kind == kinds::END {
+        leaving(q, Before::Script)
+    } else {
+        q
+    }
+}
+
 fn named(line: &[u8], p: Parse) -> Parse {
+    let at = p.at;
+    let kind = notation::kind_named(word(line, at));
+    if kind != 0 {
+        return of_kind(line, p, kind);
+    }
     if is_next(line, p, b"bytes") {
         return first_bytes(line, passed(line, p));
     }
-    let at = p.at;
-    let kind = notation::kind_named(word(line, at));
-    if kind == 0 {
-        return faulted(p, Fault::Record);
+    if is_next(line, p, b"round") {
+        return round(line, p);
     }
-    fields(line, with_byte(passed(line, p), kind), kind)
+    faulted(p, Fault::Record)
 }
 
 fn record(line: &[u8], p: Parse) -> Parse {
     let before = p.before;
     match before {
         Before::Nothing => controllers(line, p),
-        Before::Records => named(line, p),
+        Before::Playbook => named(line, p),
+        Before::Script => named(line, p),
         Before::FullBytes => further_bytes(line, p),
         Before::Bytes => faulted(p, Fault::NoRecord),
     }
 }
 
-// The record of a line after those before, or no bytes where the line has none.
-pub(crate) fn record_of(line: &[u8], before: Before) -> Parse {
+// The record of a line that has words, after those before.
+pub(crate) fn record_of(words: &[u8], before: Before) -> Parse {
     let p = begun(before);
-    let words = uncommented(line);
-    if has_word(words, p) {
-        return settled(ended(words, record(words, p)));
-    }
-    p
+    settled(ended(words, record(words, p)))
 }

@@ -77,6 +77,10 @@ pub(crate) fn word(line: &[u8], at: usize) -> &[u8] {
     behind(front(line, to), from)
 }
 
+pub(crate) fn has_words(line: &[u8]) -> bool {
+    start_from(line, 0) < line.len()
+}
+
 // A number with one digit more.
 fn longer(n: u64, digit: u8) -> u64 {
     if digit < b'0' {

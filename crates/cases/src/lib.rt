@@ -8,73 +8,75 @@ ghost use Rattle.lists.specs.Bytes.{num, byteAt};
 ghost use Rattle.flow.specs.declared.Action.the-variants.{Remove, Set};
 use flow::Action;
 use flow::Rule;
-use libc::STDOUT_FILENO;
 use lists::byte_at;
+use prose::OUT;
 pub use prose::say;
 
 // How many bytes a frame has into which a message is written.
 pub const FRAME: usize = 64;
 
 // A number, with a space before it.
-fn say_number(n: u64) {
-    say(b" ");
-    prose::say_number(n);
+fn say_number(out: &mut [u8; OUT], n: u64) {
+    say(out, b" ");
+    prose::say_number(out, n);
 }
 
-pub fn say_byte(n: u8) {
-    say_number(n as u64);
+pub fn say_byte(out: &mut [u8; OUT], n: u8) {
+    say_number(out, n as u64);
 }
 
-pub fn say_port(n: u16) {
-    say_number(n as u64);
+pub fn say_port(out: &mut [u8; OUT], n: u16) {
+    say_number(out, n as u64);
 }
 
-pub fn say_word(n: u32) {
-    say_number(n as u64);
+pub fn say_word(out: &mut [u8; OUT], n: u32) {
+    say_number(out, n as u64);
 }
 
-pub fn say_size(n: usize) {
-    say_number(n as u64);
+pub fn say_size(out: &mut [u8; OUT], n: usize) {
+    say_number(out, n as u64);
 }
 
-fn say_hex_byte(n: u8) {
-    io::print_hex(STDOUT_FILENO, n as u64, 2);
+fn say_hex_byte(out: &mut [u8; OUT], n: u8) {
+    let mut digits = [0u8; 16];
+    let k = io::hex(n as u64, 2, &mut digits);
+    say(out, &digits[..k]);
 }
 
-pub fn say_hex(bytes: &[u8]) {
+pub fn say_hex(out: &mut [u8; OUT], bytes: &[u8]) {
     let mut i: usize = 0;
     while i < bytes.len() {
-        say_hex_byte(bytes[i]);
+        say_hex_byte(out, bytes[i]);
         i += 1;
     }
 }
 
 // An action, since a set of port 0 is no removal.
-fn say_action(action: Action) {
+fn say_action(out: &mut [u8; OUT], action: Action) {
     match action {
-        Action::Remove => say(b" remove"),
+        Action::Remove => say(out, b" remove"),
         Action::Set(port) => {
-            say(b" set");
-            say_port(port);
+            say(out, b" set");
+            say_port(out, port);
         }
     }
 }
 
 // A rule with its action.
-pub fn say_whole_rule(rule: Rule) {
+pub fn say_whole_rule(out: &mut [u8; OUT], rule: Rule) {
     let action = rule.action;
-    say_word(rule.prefix);
-    say_byte(rule.length);
-    say_action(action);
+    say_word(out, rule.prefix);
+    say_byte(out, rule.length);
+    say_action(out, action);
 }
 
 // A rule with the port that it has in bytes.
-pub fn say_rule(rule: Rule) {
+pub fn say_rule(out: &mut [u8; OUT], rule: Rule) {
     let action = rule.action;
     let port = flow::port_of(action);
-    say_word(rule.prefix);
-    say_byte(rule.length);
-    say_port(port);
+    say_word(out, rule.prefix);
+    say_byte(out, rule.length);
+    say_port(out, port);
 }
 
 // The numbers in the two and in the four bytes from a place.

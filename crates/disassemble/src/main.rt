@@ -15,6 +15,7 @@ use lists::byte_at;
 use notation::INPUT;
 use notation::LINE;
 use notation::kinds;
+use prose::OUT;
 use prose::say;
 use prose::say_number;
 
@@ -28,78 +29,79 @@ fn for_input() -> [u8; SPACE]
 }
 
 // What stands before the name of a record: a blank line before a plan, and two spaces before a change of it.
-fn say_before(kind: u8) {
+fn say_before(out: &mut [u8; OUT], kind: u8) {
     match kind {
-        kinds::PLAN => say(b"\n"),
-        kinds::CHANGE => say(b"  "),
-        _ => say(b""),
+        kinds::PLAN => say(out, b"\n"),
+        kinds::CHANGE => say(out, b"  "),
+        _ => say(out, b""),
     }
 }
 
 // What ends its line: after the playbook's end a blank line too.
-fn say_after(kind: u8) {
+fn say_after(out: &mut [u8; OUT], kind: u8) {
     match kind {
-        kinds::END => say(b"\n\n"),
-        _ => say(b"\n"),
+        kinds::END => say(out, b"\n\n"),
+        _ => say(out, b"\n"),
     }
 }
 
-fn say_record(kind: u8, record: &[u8]) {
-    say_before(kind);
-    say_name(notation::name_of_kind(kind));
-    say_fields(kind, record);
-    say_after(kind);
+fn say_record(out: &mut [u8; OUT], kind: u8, record: &[u8]) {
+    say_before(out, kind);
+    say_name(out, notation::name_of_kind(kind));
+    say_fields(out, kind, record);
+    say_after(out, kind);
 }
 
-fn say_line_of_bytes(s: &[u8]) {
-    say(b"bytes");
-    say_bytes(s);
-    say(b"\n");
+fn say_line_of_bytes(out: &mut [u8; OUT], s: &[u8]) {
+    say(out, b"bytes");
+    say_bytes(out, s);
+    say(out, b"\n");
 }
 
 // What is no record, in full lines but for the last.
-fn say_unnamed(s: &[u8]) {
+fn say_unnamed(out: &mut [u8; OUT], s: &[u8]) {
     let mut rest = s;
     while LINE < rest.len() {
-        say_line_of_bytes(&rest[0..LINE]);
+        say_line_of_bytes(out, &rest[0..LINE]);
         rest = &rest[LINE..];
     }
-    say_line_of_bytes(rest);
+    say_line_of_bytes(out, rest);
 }
 
-fn say_controllers(n: u8) {
-    say(b"controllers ");
-    say_number(n as u64);
-    say(b"\n");
+fn say_controllers(out: &mut [u8; OUT], n: u8) {
+    say(out, b"controllers ");
+    say_number(out, n as u64);
+    say(out, b"\n");
 }
 
 // Record after record, up to what is none.
-fn say_records(s: &[u8]) {
+fn say_records(out: &mut [u8; OUT], s: &[u8]) {
     let mut rest = s;
     while 0 < rest.len() {
         let kind = byte_at(rest, 0);
         let size = notation::size_of(kind);
         if size == 0 {
-            say_unnamed(rest);
+            say_unnamed(out, rest);
             return;
         }
         if rest.len() < size {
-            say_unnamed(rest);
+            say_unnamed(out, rest);
             return;
         }
-        say_record(kind, &rest[0..size]);
+        say_record(out, kind, &rest[0..size]);
         rest = &rest[size..];
     }
 }
 
-fn disassemble(input: &[u8]) {
+fn disassemble(out: &mut [u8; OUT], input: &[u8]) {
     if 0 < input.len() {
-        say_controllers(byte_at(input, 0));
-        say_records(&input[1..]);
+        say_controllers(out, byte_at(input, 0));
+        say_records(out, &input[1..]);
     }
 }
 
 fn main() {
+    let mut out = [0u8; OUT];
     let mut space = for_input();
     let n = io::read_full(STDIN_FILENO, &mut space);
     if n == SPACE {
@@ -107,6 +109,7 @@ fn main() {
         io::print_decimal(STDERR_FILENO, INPUT as u64);
         io::write_all(STDERR_FILENO, b" bytes\n");
     } else {
-        disassemble(&space[..n]);
+        disassemble(&mut out, &space[..n]);
     }
+    prose::say_end(&mut out);
 }

@@ -6,23 +6,24 @@ use cases::say_whole_rule;
 use playbook::Change;
 use playbook::Plan;
 use playbook::Playbook;
+use prose::OUT;
 
-fn say_plan(i: usize, q: Plan) {
-    say(b" plan");
-    say_size(i);
-    say_byte(q.switch);
-    say_byte(q.cause);
-    say_size(q.first);
-    say_size(q.count);
+fn say_plan(out: &mut [u8; OUT], i: usize, q: Plan) {
+    say(out, b" plan");
+    say_size(out, i);
+    say_byte(out, q.switch);
+    say_byte(out, q.cause);
+    say_size(out, q.first);
+    say_size(out, q.count);
 }
 
-fn say_plans(book: Playbook) {
+fn say_plans(out: &mut [u8; OUT], book: Playbook) {
     let plans = book.plans;
     let mut i: usize = 0;
     while i < playbook::limits::PLANS {
         let q = plans[i];
         if q.switch != 0 || q.cause != 0 || q.first != 0 || q.count != 0 {
-            say_plan(i, q);
+            say_plan(out, i, q);
         }
         i += 1;
     }
@@ -37,63 +38,63 @@ fn change_empty(x: Change) -> bool {
     }
 }
 
-fn say_change(i: usize, x: Change) {
+fn say_change(out: &mut [u8; OUT], i: usize, x: Change) {
     let rule = x.rule;
-    say(b" change");
-    say_size(i);
-    say_byte(x.flow);
-    say_byte(x.switch);
-    say_whole_rule(rule);
+    say(out, b" change");
+    say_size(out, i);
+    say_byte(out, x.flow);
+    say_byte(out, x.switch);
+    say_whole_rule(out, rule);
 }
 
-fn say_changes(book: Playbook) {
+fn say_changes(out: &mut [u8; OUT], book: Playbook) {
     let changes = book.changes;
     let mut i: usize = 0;
     while i < playbook::limits::CHANGES {
         let x = changes[i];
         if !change_empty(x) {
-            say_change(i, x);
+            say_change(out, i, x);
         }
         i += 1;
     }
 }
 
-pub(crate) fn say_counts(book: Playbook) {
-    say(b" book");
-    say_size(book.planned);
-    say_size(book.listed);
+pub(crate) fn say_counts(out: &mut [u8; OUT], book: Playbook) {
+    say(out, b" book");
+    say_size(out, book.planned);
+    say_size(out, book.listed);
 }
 
-pub(crate) fn say_book(book: Playbook) {
-    say_counts(book);
-    say_plans(book);
-    say_changes(book);
+pub(crate) fn say_book(out: &mut [u8; OUT], book: Playbook) {
+    say_counts(out, book);
+    say_plans(out, book);
+    say_changes(out, book);
 }
 
-fn read_whole(s: &[u8]) -> Playbook {
+fn read_whole(out: &mut [u8; OUT], s: &[u8]) -> Playbook {
     let outcome = playbook::read(s);
     let book = outcome.playbook;
-    say(b" read");
-    say_byte(outcome.answer);
-    say_book(book);
+    say(out, b" read");
+    say_byte(out, outcome.answer);
+    say_book(out, book);
     book
 }
 
-fn read_first(s: &[u8]) -> Playbook {
+fn read_first(out: &mut [u8; OUT], s: &[u8]) -> Playbook {
     let outcome = playbook::read_first(s);
     let book = outcome.playbook;
-    say(b" read first");
-    say_byte(outcome.answer);
-    say_size(outcome.used);
-    say_book(book);
+    say(out, b" read first");
+    say_byte(out, outcome.answer);
+    say_size(out, outcome.used);
+    say_book(out, book);
     book
 }
 
 // The playbook of the bytes: of all of them, or up to its end record.
-pub(crate) fn read(letter: u8, s: &[u8]) -> Playbook {
+pub(crate) fn read(out: &mut [u8; OUT], letter: u8, s: &[u8]) -> Playbook {
     if letter == b'b' {
-        read_whole(s)
+        read_whole(out, s)
     } else {
-        read_first(s)
+        read_first(out, s)
     }
 }

@@ -23,16 +23,17 @@ use lists::byte_at;
 use playbook::Change;
 use playbook::Plan;
 use playbook::Playbook;
+use prose::OUT;
 
-fn say_undone(i: usize, u: Undone) {
+fn say_undone(out: &mut [u8; OUT], i: usize, u: Undone) {
     let rule = u.rule;
-    say(b" undone");
-    say_size(i);
-    say_word(u.number);
-    say_word(u.first);
-    say_byte(u.flow);
-    say_byte(u.switch);
-    say_whole_rule(rule);
+    say(out, b" undone");
+    say_size(out, i);
+    say_word(out, u.number);
+    say_word(out, u.first);
+    say_byte(out, u.flow);
+    say_byte(out, u.switch);
+    say_whole_rule(out, rule);
 }
 
 fn undone_empty(u: Undone) -> bool {
@@ -44,106 +45,112 @@ fn undone_empty(u: Undone) -> bool {
     }
 }
 
-fn say_held(held: Held) {
+fn say_held(out: &mut [u8; OUT], held: Held) {
     let changes = held.changes;
-    say(b" count");
-    say_size(held.count);
+    say(out, b" count");
+    say_size(out, held.count);
     let mut i: usize = 0;
     while i < limits::UNDONE {
         let u = changes[i];
         if !undone_empty(u) {
-            say_undone(i, u);
+            say_undone(out, i, u);
         }
         i += 1;
     }
 }
 
 // The numbers above 0, each after its place.
-fn say_numbers(name: &[u8], numbers: [u32; limits::OF_SWITCHES]) {
+fn say_numbers(out: &mut [u8; OUT], name: &[u8], numbers: [u32; limits::OF_SWITCHES]) {
     let mut i: usize = 0;
     while i < limits::OF_SWITCHES {
         let k = numbers[i];
         if k != 0 {
-            say(name);
-            say_size(i);
-            say_word(k);
+            say(out, name);
+            say_size(out, i);
+            say_word(out, k);
         }
         i += 1;
     }
 }
 
-fn say_state(c: Controller) {
+fn say_state(out: &mut [u8; OUT], c: Controller) {
     let held = c.progress.undone;
     let book = c.playbook;
     let acknowledged = c.progress.acknowledged;
     let serials = c.progress.serials;
-    say(b" state");
-    say_byte(c.id);
-    say_byte(c.n);
-    say_word(c.progress.last);
-    books::say_counts(book);
-    say_numbers(b" acknowledged", acknowledged);
-    say_numbers(b" serial", serials);
-    say_held(held);
+    say(out, b" state");
+    say_byte(out, c.id);
+    say_byte(out, c.n);
+    say_word(out, c.progress.last);
+    books::say_counts(out, book);
+    say_numbers(out, b" acknowledged", acknowledged);
+    say_numbers(out, b" serial", serials);
+    say_held(out, held);
 }
 
-fn say_offer(offer: Offer) {
+fn say_offer(out: &mut [u8; OUT], offer: Offer) {
     match offer {
-        Offer::Nothing => say(b""),
+        Offer::Nothing => say(out, b""),
         Offer::Event {
             switch,
             serial,
             cause,
         } => {
-            say(b" offered");
-            say_byte(switch);
-            say_word(serial);
-            say_byte(cause);
+            say(out, b" offered");
+            say_byte(out, switch);
+            say_word(out, serial);
+            say_byte(out, cause);
         }
     }
 }
 
 // The answer, what is offered and the state, which is what the next call gets.
-fn replied(r: Reply) -> Controller {
+fn replied(out: &mut [u8; OUT], r: Reply) -> Controller {
     let state = r.state;
     let offer = r.offer;
-    say_byte(r.answer);
-    say_offer(offer);
-    say_state(state);
+    say_byte(out, r.answer);
+    say_offer(out, offer);
+    say_state(out, state);
     state
 }
 
-fn set_up(book: Playbook, body: &[u8]) -> Controller {
-    say(b" setup");
-    replied(controller::setup(byte_at(body, 0), byte_at(body, 1), book))
+fn set_up(out: &mut [u8; OUT], book: Playbook, body: &[u8]) -> Controller {
+    say(out, b" setup");
+    replied(
+        out,
+        controller::setup(byte_at(body, 0), byte_at(body, 1), book),
+    )
 }
 
-fn receive(c: Controller, keys: &[u8], body: &[u8]) -> Controller {
-    say(b" received");
-    replied(controller::receive(c, keys, body))
+fn receive(out: &mut [u8; OUT], c: Controller, keys: &[u8], body: &[u8]) -> Controller {
+    say(out, b" received");
+    replied(out, controller::receive(c, keys, body))
 }
 
-fn decide(c: Controller, body: &[u8]) -> Controller {
-    say(b" decided");
-    replied(controller::decide(c, byte_at(body, 0), u32_at(body, 1), byte_at(body, 5)))
+fn decide(out: &mut [u8; OUT], c: Controller, body: &[u8]) -> Controller {
+    say(out, b" decided");
+    replied(
+        out,
+        controller::decide(c, byte_at(body, 0), u32_at(body, 1), byte_at(body, 5)),
+    )
 }
 
-fn write(c: Controller, keys: &[u8], body: &[u8]) -> Controller {
+fn write(out: &mut [u8; OUT], c: Controller, keys: &[u8], body: &[u8]) -> Controller {
     let switch = byte_at(body, 1);
     let at = frames::offset_of(body);
     let n = frames::lent_of(body, frames::SIZE);
     let mut frame = [0xeeu8; frames::SIZE];
     let r = controller::write_share(c, keys, switch, &mut frame[0..n], at);
-    say(b" written");
-    let next = replied(r);
-    frames::say_frame(&frame);
+    say(out, b" written");
+    let next = replied(out, r);
+    frames::say_frame(out, &frame);
     next
 }
 
-fn show_book(c: Controller) -> Controller {
+fn show_book(out: &mut [u8; OUT], c: Controller) -> Controller {
     let book = c.playbook;
-    say(b" holds");
-    books::say_book(book);
+    say(out, b" holds");
+    books::say_book(out, book);
     c
 }
 
@@ -282,12 +289,13 @@ fn altered(c: Controller, b: &[u8]) -> Controller {
     }
 }
 
-fn alter(c: Controller, body: &[u8]) -> Controller {
-    say(b" altered");
+fn alter(out: &mut [u8; OUT], c: Controller, body: &[u8]) -> Controller {
+    say(out, b" altered");
     altered(c, body)
 }
 
 pub(crate) fn call(
+    out: &mut [u8; OUT],
     c: Controller,
     book: Playbook,
     store: Store,
@@ -297,11 +305,11 @@ pub(crate) fn call(
     let bytes = store.bytes;
     let keys = lists::front(&bytes[..], store.length);
     match letter {
-        b's' => set_up(book, body),
-        b'm' => receive(c, keys, body),
-        b'd' => decide(c, body),
-        b'w' => write(c, keys, body),
-        b'p' => show_book(c),
-        _ => alter(c, body),
+        b's' => set_up(out, book, body),
+        b'm' => receive(out, c, keys, body),
+        b'd' => decide(out, c, body),
+        b'w' => write(out, c, keys, body),
+        b'p' => show_book(out, c),
+        _ => alter(out, c, body),
     }
 }

@@ -4,6 +4,7 @@ use cases::say;
 use cases::say_hex;
 use cases::u32_at;
 use lists::byte_at;
+use prose::OUT;
 
 // How many bytes the frame has.
 pub(crate) const SIZE: usize = cases::FRAME;
@@ -27,7 +28,7 @@ pub(crate) fn offset_of(body: &[u8]) -> usize {
     wide as usize
 }
 
-pub(crate) fn say_frame(frame: &[u8; SIZE]) {
-    say(b" frame ");
-    say_hex(frame);
+pub(crate) fn say_frame(out: &mut [u8; OUT], frame: &[u8; SIZE]) {
+    say(out, b" frame ");
+    say_hex(out, frame);
 }

@@ -1,5 +1,5 @@
 // Makes the calls of a script at switches and controllers, and prints a line for each: the answer, what was found, the
-// frame and the fields of the state. docs/DRIVE.md tells the script and the lines.
+// frame and the fields of the state. tests/DRIVE.md tells the script and the lines.
 mod books;
 mod controllers;
 mod frames;
@@ -17,6 +17,7 @@ use controller::Controller;
 use libc::STDIN_FILENO;
 use lists::byte_at;
 use playbook::Playbook;
+use prose::OUT;
 use stores::Store;
 use switch::Switch;
 
@@ -68,27 +69,35 @@ fn call_of(letter: u8) -> Call {
     }
 }
 
-fn say_end(name: &[u8], end: u8) {
-    say(name);
-    say_byte(end);
+fn say_end(out: &mut [u8; OUT], name: &[u8], end: u8) {
+    say(out, name);
+    say_byte(out, end);
 }
 
 // A call at an end that there is not.
-fn say_unknown(letter: u8) {
+fn say_unknown(out: &mut [u8; OUT], letter: u8) {
     match call_of(letter) {
-        Call::Unknown => say(b"unknown call\n"),
-        _ => say(b"unknown end\n"),
+        Call::Unknown => say(out, b"unknown call\n"),
+        _ => say(out, b"unknown end\n"),
     }
 }
 
-fn at_switch(s: Switch, store: Store, letter: u8, end: u8, body: &[u8]) -> Switch {
-    say_end(b"switch", end);
-    let next = switches::call(s, store, letter, body);
-    say(b"\n");
+fn at_switch(
+    out: &mut [u8; OUT],
+    s: Switch,
+    store: Store,
+    letter: u8,
+    end: u8,
+    body: &[u8],
+) -> Switch {
+    say_end(out, b"switch", end);
+    let next = switches::call(out, s, store, letter, body);
+    say(out, b"\n");
     next
 }
 
 fn at_controller(
+    out: &mut [u8; OUT],
     c: Controller,
     book: Playbook,
     store: Store,
@@ -96,25 +105,25 @@ fn at_controller(
     end: u8,
     body: &[u8],
 ) -> Controller {
-    say_end(b"controller", end);
-    let next = controllers::call(c, book, store, letter, body);
-    say(b"\n");
+    say_end(out, b"controller", end);
+    let next = controllers::call(out, c, book, store, letter, body);
+    say(out, b"\n");
     next
 }
 
-fn keys_of(name: &[u8], end: u8, body: &[u8]) -> Store {
-    say_end(name, end);
+fn keys_of(out: &mut [u8; OUT], name: &[u8], end: u8, body: &[u8]) -> Store {
+    say_end(out, name, end);
     let store = stores::store_of(body);
-    say(b" keys");
-    say_size(store.length);
-    say(b"\n");
+    say(out, b" keys");
+    say_size(out, store.length);
+    say(out, b"\n");
     store
 }
 
-fn book_of(letter: u8, end: u8, body: &[u8]) -> Playbook {
-    say_end(b"controller", end);
-    let book = books::read(letter, body);
-    say(b"\n");
+fn book_of(out: &mut [u8; OUT], letter: u8, end: u8, body: &[u8]) -> Playbook {
+    say_end(out, b"controller", end);
+    let book = books::read(out, letter, body);
+    say(out, b"\n");
     book
 }
 
@@ -136,7 +145,7 @@ fn begun() -> World {
 }
 
 // Each call is made on what it names, taken out of the world and put back: the world is large, and stays where it is.
-fn follow(script: &[u8]) {
+fn follow(out: &mut [u8; OUT], script: &[u8]) {
     let mut world = begun();
     let mut rest = script;
     while 4 <= rest.len() {
@@ -150,18 +159,18 @@ fn follow(script: &[u8]) {
         let body = &from[0..n];
         let i = end as usize;
         if limits::OF_SWITCHES <= i {
-            say_unknown(letter);
+            say_unknown(out, letter);
             rest = &from[n..];
         } else {
             match call_of(letter) {
                 Call::Unknown => {
-                    say(b"unknown call\n");
+                    say(out, b"unknown call\n");
                     rest = &from[n..];
                 }
                 Call::AtSwitch => {
                     let s = world.switches[i];
                     let store = world.switch_keys[i];
-                    let next = at_switch(s, store, letter, end, body);
+                    let next = at_switch(out, s, store, letter, end, body);
                     world.switches[i] = next;
                     rest = &from[n..];
                 }
@@ -169,22 +178,22 @@ fn follow(script: &[u8]) {
                     let c = world.controllers[i];
                     let store = world.controller_keys[i];
                     let book = world.book;
-                    let next = at_controller(c, book, store, letter, end, body);
+                    let next = at_controller(out, c, book, store, letter, end, body);
                     world.controllers[i] = next;
                     rest = &from[n..];
                 }
                 Call::SwitchKeys => {
-                    let store = keys_of(b"switch", end, body);
+                    let store = keys_of(out, b"switch", end, body);
                     world.switch_keys[i] = store;
                     rest = &from[n..];
                 }
                 Call::ControllerKeys => {
-                    let store = keys_of(b"controller", end, body);
+                    let store = keys_of(out, b"controller", end, body);
                     world.controller_keys[i] = store;
                     rest = &from[n..];
                 }
                 Call::Book => {
-                    let book = book_of(letter, end, body);
+                    let book = book_of(out, letter, end, body);
                     world.book = book;
                     rest = &from[n..];
                 }
@@ -192,7 +201,7 @@ fn follow(script: &[u8]) {
         }
     }
     if 0 < rest.len() {
-        say(b"cut call\n");
+        say(out, b"cut call\n");
     }
 }
 
@@ -203,11 +212,13 @@ fn for_script() -> [u8; SCRIPT]
 }
 
 fn main() {
+    let mut out = [0u8; OUT];
     let mut space = for_script();
     let n = io::read_full(STDIN_FILENO, &mut space);
     if n == SCRIPT {
-        say(b"script too long\n");
+        say(&mut out, b"script too long\n");
     } else {
-        follow(&space[..n]);
+        follow(&mut out, &space[..n]);
     }
+    prose::say_end(&mut out);
 }

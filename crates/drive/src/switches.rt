@@ -19,6 +19,7 @@ use flow::Found;
 use flow::Rule;
 use flow::Table;
 use lists::byte_at;
+use prose::OUT;
 use switch::Looked;
 use switch::Raised;
 use switch::Reply;
@@ -26,12 +27,12 @@ use switch::Slot;
 use switch::Stepped;
 use switch::Switch;
 
-fn say_entry(i: usize, e: Entry) {
-    say(b" entry");
-    say_size(i);
-    say_word(e.prefix);
-    say_byte(e.length);
-    say_port(e.port);
+fn say_entry(out: &mut [u8; OUT], i: usize, e: Entry) {
+    say(out, b" entry");
+    say_size(out, i);
+    say_word(out, e.prefix);
+    say_byte(out, e.length);
+    say_port(out, e.port);
 }
 
 fn entry_empty(e: Entry) -> bool {
@@ -42,26 +43,26 @@ fn entry_empty(e: Entry) -> bool {
     }
 }
 
-fn say_table(table: Table) {
+fn say_table(out: &mut [u8; OUT], table: Table) {
     let entries = table.entries;
-    say(b" count");
-    say_size(table.count);
+    say(out, b" count");
+    say_size(out, table.count);
     let mut i: usize = 0;
     while i < limits::ENTRIES {
         let e = entries[i];
         if !entry_empty(e) {
-            say_entry(i, e);
+            say_entry(out, i, e);
         }
         i += 1;
     }
 }
 
-fn say_slot(i: usize, slot: Slot) {
+fn say_slot(out: &mut [u8; OUT], i: usize, slot: Slot) {
     let rule = slot.rule;
-    say(b" slot");
-    say_size(i);
-    say_word(slot.number);
-    say_whole_rule(rule);
+    say(out, b" slot");
+    say_size(out, i);
+    say_word(out, slot.number);
+    say_whole_rule(out, rule);
 }
 
 fn slot_empty(slot: Slot) -> bool {
@@ -73,52 +74,52 @@ fn slot_empty(slot: Slot) -> bool {
     }
 }
 
-fn say_slots(s: Switch) {
+fn say_slots(out: &mut [u8; OUT], s: Switch) {
     let slots = s.slots;
     let mut i: usize = 0;
     while i < limits::OF_CONTROLLERS {
         let slot = slots[i];
         if !slot_empty(slot) {
-            say_slot(i, slot);
+            say_slot(out, i, slot);
         }
         i += 1;
     }
 }
 
-fn say_state(s: Switch) {
+fn say_state(out: &mut [u8; OUT], s: Switch) {
     let raised = s.raised;
     let table = s.table;
-    say(b" state");
-    say_byte(s.id);
-    say_byte(s.n);
-    say_word(s.last);
-    say_word(raised.serial);
-    say_byte(raised.cause);
-    say_table(table);
-    say_slots(s);
+    say(out, b" state");
+    say_byte(out, s.id);
+    say_byte(out, s.n);
+    say_word(out, s.last);
+    say_word(out, raised.serial);
+    say_byte(out, raised.cause);
+    say_table(out, table);
+    say_slots(out, s);
 }
 
 // The answer and the state, which is what the next call gets.
-fn replied(r: Reply) -> Switch {
+fn replied(out: &mut [u8; OUT], r: Reply) -> Switch {
     let state = r.state;
-    say_byte(r.answer);
-    say_state(state);
+    say_byte(out, r.answer);
+    say_state(out, state);
     state
 }
 
-fn set_up(body: &[u8]) -> Switch {
-    say(b" setup");
-    replied(switch::setup(byte_at(body, 0), byte_at(body, 1)))
+fn set_up(out: &mut [u8; OUT], body: &[u8]) -> Switch {
+    say(out, b" setup");
+    replied(out, switch::setup(byte_at(body, 0), byte_at(body, 1)))
 }
 
-fn receive(s: Switch, keys: &[u8], body: &[u8]) -> Switch {
-    say(b" received");
-    replied(switch::receive(s, keys, body))
+fn receive(out: &mut [u8; OUT], s: Switch, keys: &[u8], body: &[u8]) -> Switch {
+    say(out, b" received");
+    replied(out, switch::receive(s, keys, body))
 }
 
-fn raise(s: Switch, body: &[u8]) -> Switch {
-    say(b" raised");
-    replied(switch::raise(s, byte_at(body, 0)))
+fn raise(out: &mut [u8; OUT], s: Switch, body: &[u8]) -> Switch {
+    say(out, b" raised");
+    replied(out, switch::raise(s, byte_at(body, 0)))
 }
 
 // An event is lent, raised in place and read again.
@@ -134,17 +135,20 @@ fn raised_in_place(was: Raised, cause: u8) -> Stepped
 }
 
 // The switch's own event, raised in place: question 20 is not asked.
-fn raise_in_place(s: Switch, body: &[u8]) -> Switch {
+fn raise_in_place(out: &mut [u8; OUT], s: Switch, body: &[u8]) -> Switch {
     let mut next = s;
     let was = s.raised;
     let r = raised_in_place(was, byte_at(body, 0));
     let event = r.raised;
     next.raised = event;
-    say(b" raised in place");
-    replied(Reply {
-        answer: r.answer,
-        state: next,
-    })
+    say(out, b" raised in place");
+    replied(
+        out,
+        Reply {
+            answer: r.answer,
+            state: next,
+        },
+    )
 }
 
 fn write_into(s: Switch, event: bool, keys: &[u8], c: u8, frame: &mut [u8], at: usize) -> Reply {
@@ -155,50 +159,50 @@ fn write_into(s: Switch, event: bool, keys: &[u8], c: u8, frame: &mut [u8], at: 
     }
 }
 
-fn write(s: Switch, event: bool, keys: &[u8], body: &[u8]) -> Switch {
+fn write(out: &mut [u8; OUT], s: Switch, event: bool, keys: &[u8], body: &[u8]) -> Switch {
     let c = byte_at(body, 1);
     let at = frames::offset_of(body);
     let n = frames::lent_of(body, frames::SIZE);
     let mut frame = [0xeeu8; frames::SIZE];
     let r = write_into(s, event, keys, c, &mut frame[0..n], at);
-    say(b" written");
-    let next = replied(r);
-    frames::say_frame(&frame);
+    say(out, b" written");
+    let next = replied(out, r);
+    frames::say_frame(out, &frame);
     next
 }
 
-fn look_up(s: Switch, body: &[u8]) -> Switch {
-    say(b" looked up");
+fn look_up(out: &mut [u8; OUT], s: Switch, body: &[u8]) -> Switch {
+    say(out, b" looked up");
     match switch::lookup(s, u32_at(body, 0)) {
         Looked::Refused(k) => {
-            say(b" refused");
-            say_byte(k);
+            say(out, b" refused");
+            say_byte(out, k);
         }
-        Looked::Nothing => say(b" nothing"),
+        Looked::Nothing => say(out, b" nothing"),
         Looked::Port(port) => {
-            say(b" port");
-            say_port(port);
+            say(out, b" port");
+            say_port(out, port);
         }
     }
     s
 }
 
-fn forward(s: Switch, body: &[u8]) -> Switch {
+fn forward(out: &mut [u8; OUT], s: Switch, body: &[u8]) -> Switch {
     let table = s.table;
-    say(b" forwarded");
+    say(out, b" forwarded");
     match flow::lookup(table, u32_at(body, 0)) {
-        Found::Nothing => say(b" nothing"),
+        Found::Nothing => say(out, b" nothing"),
         Found::Port(port) => {
-            say(b" port");
-            say_port(port);
+            say(out, b" port");
+            say_port(out, port);
         }
     }
     s
 }
 
-fn count_quorum(s: Switch, body: &[u8]) -> Switch {
-    say(b" quorum");
-    say_word(switch::quorum(byte_at(body, 0)));
+fn count_quorum(out: &mut [u8; OUT], s: Switch, body: &[u8]) -> Switch {
+    say(out, b" quorum");
+    say_word(out, switch::quorum(byte_at(body, 0)));
     s
 }
 
@@ -279,24 +283,30 @@ fn altered(s: Switch, b: &[u8]) -> Switch {
     }
 }
 
-fn alter(s: Switch, body: &[u8]) -> Switch {
-    say(b" altered");
+fn alter(out: &mut [u8; OUT], s: Switch, body: &[u8]) -> Switch {
+    say(out, b" altered");
     altered(s, body)
 }
 
-pub(crate) fn call(s: Switch, store: Store, letter: u8, body: &[u8]) -> Switch {
+pub(crate) fn call(
+    out: &mut [u8; OUT],
+    s: Switch,
+    store: Store,
+    letter: u8,
+    body: &[u8],
+) -> Switch {
     let bytes = store.bytes;
     let keys = lists::front(&bytes[..], store.length);
     match letter {
-        b'S' => set_up(body),
-        b'M' => receive(s, keys, body),
-        b'R' => raise(s, body),
-        b'I' => raise_in_place(s, body),
-        b'E' => write(s, true, keys, body),
-        b'A' => write(s, false, keys, body),
-        b'L' => look_up(s, body),
-        b'T' => forward(s, body),
-        b'Q' => count_quorum(s, body),
-        _ => alter(s, body),
+        b'S' => set_up(out, body),
+        b'M' => receive(out, s, keys, body),
+        b'R' => raise(out, s, body),
+        b'I' => raise_in_place(out, s, body),
+        b'E' => write(out, s, true, keys, body),
+        b'A' => write(out, s, false, keys, body),
+        b'L' => look_up(out, s, body),
+        b'T' => forward(out, s, body),
+        b'Q' => count_quorum(out, s, body),
+        _ => alter(out, s, body),
     }
 }

@@ -1,11 +1,16 @@
 // The ends after the last record: each switch's table and held shares, each controller's undone changes.
+use crate::sets;
+use crate::sets::ENDS;
+use crate::untold;
 use answer::limits;
 use controller::Controller;
 use controller::Held;
 use controller::Undone;
 use flow::Entry;
 use flow::Table;
+use prose::OUT;
 use prose::say;
+use prose::say_number;
 use rehearsal::World;
 use story::say_change;
 use story::say_count;
@@ -13,39 +18,39 @@ use story::say_name;
 use switch::Slot;
 use switch::Switch;
 
-fn say_entry(entry: Entry) {
-    say(b"  ");
-    story::say_rule(flow::rule_of(entry.prefix, entry.length, entry.port));
-    say(b"\n");
+fn say_entry(out: &mut [u8; OUT], entry: Entry) {
+    say(out, b"  ");
+    story::say_rule(out, flow::rule_of(entry.prefix, entry.length, entry.port));
+    say(out, b"\n");
 }
 
-fn say_table(table: Table) {
+fn say_table(out: &mut [u8; OUT], table: Table) {
     let entries = table.entries;
     let count = table.count;
     let mut i: usize = 0;
     while i < limits::ENTRIES {
         if i < count {
-            say_entry(entries[i]);
+            say_entry(out, entries[i]);
         }
         i += 1;
     }
 }
 
-fn say_slot(controller: u8, slot: Slot) {
+fn say_slot(out: &mut [u8; OUT], controller: u8, slot: Slot) {
     let rule = slot.rule;
     if slot.number != 0 {
-        say_name(b"  holds from controller", controller as u32);
-        say(b": ");
-        say_change(slot.number, rule);
-        say(b"\n");
+        say_name(out, b"  holds from controller", controller as u32);
+        say(out, b": ");
+        say_change(out, slot.number, rule);
+        say(out, b"\n");
     }
 }
 
-fn say_slots(s: Switch) {
+fn say_slots(out: &mut [u8; OUT], s: Switch) {
     let slots = s.slots;
     let mut i: u8 = 0;
     while i < limits::CONTROLLERS {
-        say_slot(i, slots[i as usize]);
+        say_slot(out, i, slots[i as usize]);
         i += 1;
     }
 }
@@ -71,82 +76,80 @@ fn is_fresh(s: Switch) -> bool {
     holds_nothing(s)
 }
 
-fn say_switch(s: Switch) {
+fn say_switch(out: &mut [u8; OUT], s: Switch) {
     let table = s.table;
     if is_fresh(s) {
         return;
     }
-    say_name(b"switch", s.id as u32);
-    say_name(b" is at change", s.last);
-    if table.count == 0 {
-        say(b", with no entry\n");
+    story::say_last(out, s.id, s.last);
+    if s.last == 0 {
+        say(out, b"\n");
+    } else if table.count == 0 {
+        say(out, b", with no entry\n");
     } else {
-        say(b":\n");
-        say_table(table);
+        say(out, b":\n");
+        say_table(out, table);
     }
-    say_slots(s);
+    say_slots(out, s);
 }
 
-fn some_fresh(switches: [Switch; limits::OF_SWITCHES]) -> bool {
+// A byte for each switch: 1 if it is as it was set up.
+fn fresh_of(switches: [Switch; limits::OF_SWITCHES]) -> [u8; ENDS] {
+    let mut fresh = [0u8; ENDS];
     let mut i: usize = 0;
-    while i < limits::OF_SWITCHES {
+    while i < ENDS {
         if is_fresh(switches[i]) {
-            return true;
+            fresh[i] = 1;
         }
         i += 1;
     }
-    false
+    fresh
 }
 
-fn say_id(s: Switch) {
-    if is_fresh(s) {
-        say_name(b"", s.id as u32);
-    }
-}
-
-fn say_ids(switches: [Switch; limits::OF_SWITCHES]) {
+fn say_changed(out: &mut [u8; OUT], switches: [Switch; limits::OF_SWITCHES]) {
     let mut i: usize = 0;
     while i < limits::OF_SWITCHES {
-        say_id(switches[i]);
-        i += 1;
-    }
-}
-
-fn say_changed(switches: [Switch; limits::OF_SWITCHES]) {
-    let mut i: usize = 0;
-    while i < limits::OF_SWITCHES {
-        say_switch(switches[i]);
+        say_switch(out, switches[i]);
         i += 1;
     }
 }
 
 // Each switch on which something happened, then the numbers of the others.
-pub(crate) fn say_switches(world: World) {
-    let switches = world.switches;
-    say_changed(switches);
-    if some_fresh(switches) {
-        say(b"at change 0, with no entry, are switches");
-        say_ids(switches);
-        say(b"\n");
+fn say_switches(out: &mut [u8; OUT], switches: [Switch; limits::OF_SWITCHES]) {
+    let fresh = fresh_of(switches);
+    say(out, b"\n");
+    say_changed(out, switches);
+    if sets::count_of(&fresh, 1) != 0 {
+        say(out, b"no change was made on ");
+        sets::say_switches(out, &fresh, 1);
+        say(out, b"\n");
     }
 }
 
-fn say_undone_change(change: Undone) {
-    let rule = change.rule;
-    say(b"  ");
-    say_change(change.number, rule);
-    say_name(b", on switch", change.switch as u32);
-    say_name(b", flow", change.flow as u32);
-    say(b"\n");
+fn say_told(out: &mut [u8; OUT], controller: u8, made: bool) {
+    if made {
+        say_name(out, b": made; controller", controller as u32);
+        say(out, b" was not told");
+    }
+    say(out, b"\n");
 }
 
-fn say_undone(held: Held) {
+fn say_undone_change(out: &mut [u8; OUT], lasts: &[u32; ENDS], controller: u8, change: Undone) {
+    let rule = change.rule;
+    say(out, b"  ");
+    say_change(out, change.number, rule);
+    say_name(out, b", on switch", change.switch as u32);
+    say_name(out, b", flow", change.flow as u32);
+    say_told(out, controller, untold::is_made(lasts, change));
+}
+
+fn say_undone(out: &mut [u8; OUT], lasts: &[u32; ENDS], controller: u8, held: Held) {
     let changes = held.changes;
     let count = held.count;
     let mut i: usize = 0;
     while i < limits::UNDONE {
         if i < count {
-            say_undone_change(changes[i]);
+            say_undone_change(out, lasts, controller, changes[i]);
         }
         i += 1;
     }
@@ -165,33 +168,51 @@ fn took_none(c: Controller) -> bool {
     true
 }
 
-fn say_nothing_left(c: Controller) {
+fn say_nothing_left(out: &mut [u8; OUT], c: Controller) {
     if took_none(c) {
-        say(b", and took no decision");
+        say(out, b", and took no decision");
     }
-    say(b"\n");
+    say(out, b"\n");
 }
 
-fn say_controller(c: Controller) {
-    let held = c.progress.undone;
-    say_name(b"controller", c.id as u32);
-    say(b" has ");
-    say_count(controller::undone_in(held) as u32);
-    if held.count == 0 {
-        say_nothing_left(c);
+// How many of the undone changes are made.
+fn say_made(out: &mut [u8; OUT], count: usize, made: usize) {
+    if made == 0 {
+        say(out, b":\n");
+    } else if count == 1 {
+        say(out, b", which is made:\n");
+    } else if count == made {
+        say(out, b", all of them made:\n");
     } else {
-        say(b":\n");
-        say_undone(held);
+        say(out, b", ");
+        say_number(out, made as u64);
+        say(out, b" of them made:\n");
     }
 }
 
-pub(crate) fn say_controllers(world: World) {
-    let controllers = world.controllers;
-    let n = world.n;
+fn say_controller(out: &mut [u8; OUT], lasts: &[u32; ENDS], c: Controller) {
+    let held = c.progress.undone;
+    say_name(out, b"controller", c.id as u32);
+    say(out, b" has ");
+    say_count(out, controller::undone_in(held) as u32);
+    if held.count == 0 {
+        say_nothing_left(out, c);
+    } else {
+        say_made(out, held.count, untold::count_of(lasts, held));
+        say_undone(out, lasts, c.id, held);
+    }
+}
+
+// The switches, then the controllers.
+pub(crate) fn say_ends(out: &mut [u8; OUT], world: World) {
+    let switches = world.switches;
+    let lasts = untold::lasts_of(switches);
+    say_switches(out, switches);
     let mut i: u8 = 0;
     while i < limits::CONTROLLERS {
-        if i < n {
-            say_controller(controllers[i as usize]);
+        if i < world.n {
+            let c = world.controllers[i as usize];
+            say_controller(out, &lasts, c);
         }
         i += 1;
     }

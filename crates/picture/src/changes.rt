@@ -1,39 +1,20 @@
-// The changes that were made in a rehearsal: the columns of the first ones, and how many there are.
-ghost use Prim.Native.Nat.{_≤_, _<_};
+// The changes that were made in a rehearsal.
+ghost use Prim.Native.Nat.{_<_};
 ghost use Rattle.rehearsal.specs.Limits.{mostLines};
+use crate::firsts;
+use crate::firsts::Firsts;
+use crate::firsts::LISTED;
+use crate::firsts::say_more;
+use crate::firsts::with_column;
 use crate::listed::say_line;
 use crate::listed::say_line_end;
+use prose::OUT;
 use prose::say;
 use prose::say_number;
 use rehearsal::DEEDS;
 use rehearsal::Deed;
 
-// So many are listed.
-const LISTED: usize = 24;
-
-pub(crate) struct Changes {
-    columns: [usize; LISTED],
-    count: usize,
-}
-
-// There are no more than steps.
-fn one_more(count: usize) -> usize {
-    if count < DEEDS { count + 1 } else { count }
-}
-
-fn with_column(changes: Changes, column: usize) -> Changes {
-    let mut columns = changes.columns;
-    let count = changes.count;
-    if count < LISTED {
-        columns[count] = column;
-    }
-    Changes {
-        columns: columns,
-        count: one_more(count),
-    }
-}
-
-fn with_step(changes: Changes, deed: Deed, column: usize) -> Changes {
+fn with_step(changes: Firsts, deed: Deed, column: usize) -> Firsts {
     if deed.answer == answer::APPLIED {
         with_column(changes, column)
     } else {
@@ -41,11 +22,8 @@ fn with_step(changes: Changes, deed: Deed, column: usize) -> Changes {
     }
 }
 
-pub(crate) fn changes_in(deeds: [Deed; DEEDS], count: usize) -> Changes {
-    let mut changes = Changes {
-        columns: [0; LISTED],
-        count: 0,
-    };
+pub(crate) fn changes_in(deeds: [Deed; DEEDS], count: usize) -> Firsts {
+    let mut changes = firsts::none();
     let mut i: usize = 0;
     while i < DEEDS {
         if i < count {
@@ -57,52 +35,31 @@ pub(crate) fn changes_in(deeds: [Deed; DEEDS], count: usize) -> Changes {
     changes
 }
 
-// How many lines they take: those that are not listed are counted in one more.
-pub(crate) fn lines_of(changes: Changes) -> u64
-    ensures { λ r. ⌜ r ≤ 25 ⌝ }
-{
-    if changes.count <= LISTED {
-        changes.count as u64
-    } else {
-        LISTED as u64 + 1
-    }
-}
-
-fn say_change(deed: Deed, column: usize, x: u64)
+fn say_change(out: &mut [u8; OUT], deed: Deed, column: usize, x: u64)
     requires { ⌜ column < mostLines ⌝ }
 {
     let slot = deed.wish.slot;
     let rule = slot.rule;
-    say_line(x);
-    say(b"record ");
-    say_number(column as u64 + 1);
-    story::say_name(b": switch", deed.switch as u32);
-    say(b" at ");
-    story::say_change(slot.number, rule);
-    say_line_end();
-}
-
-fn say_more(count: usize, x: u64) {
-    if LISTED < count {
-        say_line(x);
-        say(b"and ");
-        say_number((count - LISTED) as u64);
-        say(b" more");
-        say_line_end();
-    }
+    say_line(out, x);
+    say(out, b"record ");
+    say_number(out, column as u64 + 1);
+    story::say_name(out, b": switch", deed.switch as u32);
+    say(out, b" at ");
+    story::say_change(out, slot.number, rule);
+    say_line_end(out);
 }
 
 // A line for each, in order.
-pub(crate) fn say_changes(changes: Changes, deeds: [Deed; DEEDS], x: u64) {
+pub(crate) fn say_changes(out: &mut [u8; OUT], changes: Firsts, deeds: [Deed; DEEDS], x: u64) {
     let columns = changes.columns;
     let count = changes.count;
     let mut i: usize = 0;
     while i < LISTED {
         if i < count {
             let column = columns[i] % DEEDS;
-            say_change(deeds[column], column, x);
+            say_change(out, deeds[column], column, x);
         }
         i += 1;
     }
-    say_more(count, x);
+    say_more(out, count, x);
 }

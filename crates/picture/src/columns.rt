@@ -1,18 +1,18 @@
-// Where the columns stand. After forty of them there is a gap, in which the rows' names stand again: a long picture is
-// looked at in parts.
-ghost use Prim.Native.Nat.{_≤_, _<_};
+// Where the columns stand: forty in a band, the bands one below the other.
+ghost use Prim.Native.Nat.{_≤_};
 ghost use Rattle.rehearsal.specs.Limits.{mostLines};
+
+// Columns of a band.
+pub(crate) const BAND: usize = 40;
 
 const LEFT: u64 = 100;
 
 const WIDTH: u64 = 36;
 
-const GAP: u64 = 96;
+// Where the names before the columns end, and where the rows' lines begin.
+pub(crate) const NAMES: u64 = 88;
 
-pub(crate) const BLOCK: usize = 40;
-
-// No more blocks than these hold all columns.
-pub(crate) const BLOCKS: usize = 103;
+pub(crate) const LINES: u64 = 96;
 
 // The legend is not narrower.
 const NARROWEST: u64 = 1120;
@@ -28,25 +28,39 @@ pub(crate) fn shown(count: usize) -> usize
     }
 }
 
-// The middle of a column.
-pub(crate) fn x_of(column: usize) -> u64
-    requires { ⌜ column ≤ 4120 ⌝ }
-    ensures { λ r. ⌜ (118 ≤ r) × (r ≤ 200000) ⌝ }
+// The band that a column stands in.
+pub(crate) fn band_of(column: usize) -> u64
+    ensures { λ r. ⌜ r ≤ 102 ⌝ }
 {
-    let before = column as u64;
-    let gaps = (column / BLOCK) as u64;
-    LEFT + WIDTH / 2 + WIDTH * before + GAP * gaps
+    (shown(column) / BAND) as u64
 }
 
-// The right end of all columns, of which there are so many.
-pub(crate) fn right_of(count: usize) -> u64
-    requires { ⌜ count ≤ mostLines ⌝ }
-    ensures { λ r. ⌜ r ≤ 200100 ⌝ }
+// How many bands there are: one also where there is no column.
+pub(crate) fn bands_of(count: usize) -> u64
+    ensures { λ r. ⌜ r ≤ 103 ⌝ }
 {
     if count == 0 {
-        LEFT
+        1
     } else {
-        x_of(count - 1) + WIDTH / 2
+        band_of(count - 1) + 1
+    }
+}
+
+// The middle of a column.
+pub(crate) fn x_of(column: usize) -> u64 {
+    LEFT + WIDTH / 2 + WIDTH * ((column % BAND) as u64)
+}
+
+// The right end of a band that begins with a column, of so many columns.
+pub(crate) fn right_of(column: usize, count: usize) -> u64
+    ensures { λ r. ⌜ r ≤ 1540 ⌝ }
+{
+    if count <= column {
+        LEFT
+    } else if count - column < BAND {
+        LEFT + WIDTH * ((count - column) as u64)
+    } else {
+        LEFT + WIDTH * (BAND as u64)
     }
 }
 
@@ -55,17 +69,8 @@ pub(crate) fn length_of(x: u64, right: u64) -> u64 {
     if x < right { right - x } else { 0 }
 }
 
-// Where the names before a block of columns end.
-pub(crate) fn names_end(block: usize) -> u64
-    requires { ⌜ block < 103 ⌝ }
-{
-    x_of(block * BLOCK) - WIDTH / 2 - 12
-}
-
 // The picture's width.
-pub(crate) fn width_of(count: usize) -> u64
-    requires { ⌜ count ≤ mostLines ⌝ }
-{
-    let width = right_of(count) + 20;
+pub(crate) fn width_of(count: usize) -> u64 {
+    let width = right_of(0, count) + 20;
     if width < NARROWEST { NARROWEST } else { width }
 }

@@ -3,6 +3,7 @@
 ghost use Prim.Native.Nat.{_≤_};
 use crate::listed::say_line;
 use crate::listed::say_line_end;
+use prose::OUT;
 use prose::say;
 use prose::say_number;
 use rehearsal::DEEDS;
@@ -87,23 +88,23 @@ fn kind_at(place: usize) -> Kind {
     }
 }
 
-fn say_refusal(place: usize, x: u64) {
+fn say_refusal(out: &mut [u8; OUT], place: usize, x: u64) {
     let answer = (place / 2 % 64) as u8;
-    say_line(x);
-    say(b"<tspan class='bad'>");
-    say_number(answer as u64);
-    say(b"</tspan> ");
-    story::say_meaning(kind_at(place), answer);
-    say_line_end();
+    say_line(out, x);
+    say(out, b"<tspan class='bad'>");
+    say_number(out, answer as u64);
+    say(out, b"</tspan> ");
+    story::say_meaning(out, kind_at(place), answer);
+    say_line_end(out);
 }
 
 // A line for each, by rising number.
-pub(crate) fn say_refusals(refusals: Refusals, x: u64) {
+pub(crate) fn say_refusals(out: &mut [u8; OUT], refusals: Refusals, x: u64) {
     let met = refusals.met;
     let mut i: usize = 0;
     while i < PLACES {
         if met[i] {
-            say_refusal(i, x);
+            say_refusal(out, i, x);
         }
         i += 1;
     }

@@ -1,5 +1,5 @@
-// The rows: the controllers, and below them the switches that some record reached. Above them is a line for what
-// belongs to no row, if there is such a deed.
+// The rows of each band: the controllers, and below them the switches that some record reached. Above them is a line
+// for what belongs to no row, if there is such a deed. Depths are those below the top of the band.
 ghost use Prim.Native.Nat.{_+_, _≤_};
 use crate::reached;
 use crate::reached::Reached;
@@ -8,14 +8,14 @@ use rehearsal::DEEDS;
 use rehearsal::Deed;
 
 // The records' ordinals, and what belongs to no row.
-pub(crate) const ORDINALS: u64 = 66;
+pub(crate) const ORDINALS: u64 = 14;
 
-pub(crate) const OUTSIDE: u64 = 96;
+pub(crate) const OUTSIDE: u64 = 46;
 
 const HEIGHT: u64 = 36;
 
 // How many controllers there are; whether a step belongs to no row; how deep each switch's row lies, 0 for a switch
-// without one; the answers and figures below the rows, and where the picture of them ends.
+// without one; the answers and figures below the rows, and where the band ends.
 pub(crate) struct Rows {
     pub(crate) n: u8,
     pub(crate) outside: bool,
@@ -27,7 +27,7 @@ pub(crate) struct Rows {
 
 // The first row.
 fn first(outside: bool) -> u64
-    ensures { λ r. ⌜ r ≤ 136 ⌝ }
+    ensures { λ r. ⌜ r ≤ 86 ⌝ }
 {
     if outside { OUTSIDE + 40 } else { OUTSIDE }
 }
@@ -35,7 +35,7 @@ fn first(outside: bool) -> u64
 // Row k, counted from the first.
 fn row(outside: bool, k: u8) -> u64
     requires { ⌜ k ≤ 16 ⌝ }
-    ensures { λ r. ⌜ r ≤ 712 ⌝ }
+    ensures { λ r. ⌜ r ≤ 662 ⌝ }
 {
     first(outside) + HEIGHT * (k as u64)
 }
@@ -63,9 +63,7 @@ fn below(there: bool, y: u64) -> u64
 }
 
 // The switches begin a little below the controllers.
-fn rows_with(n: u8, outside: bool, reached: Reached) -> Rows
-    ensures { λ r. ⌜ r .bottom ≤ 1500 ⌝ }
-{
+fn rows_with(n: u8, outside: bool, reached: Reached) -> Rows {
     let there = reached.switches;
     let mut switches = [0u64; limits::OF_SWITCHES];
     let mut y = row(outside, at_most_16(n)) + 20;
@@ -86,9 +84,7 @@ fn rows_with(n: u8, outside: bool, reached: Reached) -> Rows
     }
 }
 
-pub(crate) fn rows_of(n: u8, deeds: [Deed; DEEDS], count: usize) -> Rows
-    ensures { λ r. ⌜ r .bottom ≤ 1500 ⌝ }
-{
+pub(crate) fn rows_of(n: u8, deeds: [Deed; DEEDS], count: usize) -> Rows {
     let reached = reached::reached_by(deeds, count);
     let outside = reached::any_outside(n, reached, deeds, count);
     rows_with(n, outside, reached)

@@ -3,6 +3,7 @@ ghost use mathlib.Core.Path.{_≡_};
 ghost use Prim.Native.Nat.{_+_};
 ghost use lib.ListN.{length};
 ghost use Rattle.rehearsal.specs.Limits.{longestInput, mostPrinted};
+use libc::STDERR_FILENO;
 use libc::STDIN_FILENO;
 use libc::STDOUT_FILENO;
 
@@ -18,11 +19,18 @@ fn for_output() -> [u8; rehearsal::OUTPUT]
     [0u8; rehearsal::OUTPUT]
 }
 
+// What could not be written is told on standard error.
+fn write(text: &[u8]) {
+    if !io::write_all(STDOUT_FILENO, text) {
+        io::write_all(STDERR_FILENO, b"not all of the output could be written\n");
+    }
+}
+
 fn main() {
     let mut input = for_input();
     let n = io::read_full(STDIN_FILENO, &mut input);
     let mut out = for_output();
     let printed = rehearsal::rehearse(&input[..n], &mut out);
     let length = printed.length;
-    io::write_all(STDOUT_FILENO, &out[..length]);
+    write(&out[..length]);
 }

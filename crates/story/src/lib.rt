@@ -7,10 +7,10 @@ mod words;
 
 pub use figures::say_change;
 pub use figures::say_count;
+pub use figures::say_last;
 pub use figures::say_name;
 pub use figures::say_rule;
 pub use meanings::say_meaning;
 pub use telling::tell;
-pub use words::say_fault;
 pub use words::say_line;
 pub use words::say_words;

@@ -19,6 +19,7 @@ use playbook::Change;
 use playbook::Outcome;
 use playbook::Plan;
 use playbook::Playbook;
+use prose::OUT;
 
 // The key of every message here.
 const KEY: [u8; 32] = [0x0b; 32];
@@ -26,7 +27,7 @@ const KEY: [u8; 32] = [0x0b; 32];
 // How many bytes a frame has at most.
 const FRAME: usize = cases::FRAME;
 
-fn say_message(m: Message) {
+fn say_message(out: &mut [u8; OUT], m: Message) {
     match m {
         Message::Event {
             switch,
@@ -34,11 +35,11 @@ fn say_message(m: Message) {
             serial,
             cause,
         } => {
-            say(b"event");
-            say_byte(switch);
-            say_byte(controller);
-            say_word(serial);
-            say_byte(cause);
+            say(out, b"event");
+            say_byte(out, switch);
+            say_byte(out, controller);
+            say_word(out, serial);
+            say_byte(out, cause);
         }
         Message::Share {
             controller,
@@ -46,39 +47,39 @@ fn say_message(m: Message) {
             number,
             rule,
         } => {
-            say(b"share");
-            say_byte(controller);
-            say_byte(switch);
-            say_word(number);
-            say_rule(rule);
+            say(out, b"share");
+            say_byte(out, controller);
+            say_byte(out, switch);
+            say_word(out, number);
+            say_rule(out, rule);
         }
         Message::Acknowledgement {
             switch,
             controller,
             number,
         } => {
-            say(b"acknowledgement");
-            say_byte(switch);
-            say_byte(controller);
-            say_word(number);
+            say(out, b"acknowledgement");
+            say_byte(out, switch);
+            say_byte(out, controller);
+            say_word(out, number);
         }
         Message::Refused(k) => {
-            say(b"refused");
-            say_byte(k);
+            say(out, b"refused");
+            say_byte(out, k);
         }
     }
 }
 
 // Bytes received at an end: the message, its answer, and whether its tag matches.
-fn receive(end: End, s: &[u8]) {
+fn receive(out: &mut [u8; OUT], end: End, s: &[u8]) {
     let m = message::read(end, s);
-    say_message(m);
-    say(b" answer");
-    say_byte(message::number(m));
+    say_message(out, m);
+    say(out, b" answer");
+    say_byte(out, message::number(m));
     if message::is_sealed(&KEY, s) {
-        say(b" sealed\n");
+        say(out, b" sealed\n");
     } else {
-        say(b" not sealed\n");
+        say(out, b" not sealed\n");
     }
 }
 
@@ -144,96 +145,96 @@ fn write_into(frame: &mut [u8], s: &[u8]) -> u8 {
 }
 
 // A message written into a frame, and the whole frame afterwards.
-fn write(s: &[u8]) {
+fn write(out: &mut [u8; OUT], s: &[u8]) {
     let mut space = [0xeeu8; FRAME];
     let answer = write_into(&mut space, s);
-    say(b"written");
-    say_byte(answer);
-    say(b" ");
-    say_hex(&space);
-    say(b"\n");
+    say(out, b"written");
+    say_byte(out, answer);
+    say(out, b" ");
+    say_hex(out, &space);
+    say(out, b"\n");
 }
 
-fn say_plan(q: Plan) {
-    say(b" plan");
-    say_byte(q.switch);
-    say_byte(q.cause);
-    say_size(q.first);
-    say_size(q.count);
+fn say_plan(out: &mut [u8; OUT], q: Plan) {
+    say(out, b" plan");
+    say_byte(out, q.switch);
+    say_byte(out, q.cause);
+    say_size(out, q.first);
+    say_size(out, q.count);
 }
 
-fn say_change(c: Change) {
-    say(b" change");
-    say_byte(c.flow);
-    say_byte(c.switch);
-    say_rule(c.rule);
+fn say_change(out: &mut [u8; OUT], c: Change) {
+    say(out, b" change");
+    say_byte(out, c.flow);
+    say_byte(out, c.switch);
+    say_rule(out, c.rule);
 }
 
-fn say_plans(p: Playbook) {
+fn say_plans(out: &mut [u8; OUT], p: Playbook) {
     let plans = p.plans;
     let n = p.planned;
     let mut i: usize = 0;
     while i < playbook::limits::PLANS {
         if i < n {
             let q = plans[i];
-            say_plan(q);
+            say_plan(out, q);
         }
         i += 1;
     }
 }
 
-fn say_changes(p: Playbook) {
+fn say_changes(out: &mut [u8; OUT], p: Playbook) {
     let changes = p.changes;
     let n = p.listed;
     let mut i: usize = 0;
     while i < playbook::limits::CHANGES {
         if i < n {
             let c = changes[i];
-            say_change(c);
+            say_change(out, c);
         }
         i += 1;
     }
 }
 
-fn say_stored(p: Playbook) {
+fn say_stored(out: &mut [u8; OUT], p: Playbook) {
     if playbook::stored(p) {
-        say(b" stored");
+        say(out, b" stored");
     } else {
-        say(b" not stored");
+        say(out, b" not stored");
     }
 }
 
-fn say_outcome(r: Outcome) {
+fn say_outcome(out: &mut [u8; OUT], r: Outcome) {
     let p = r.playbook;
-    say_byte(r.answer);
-    say_size(r.used);
-    say_size(p.planned);
-    say_size(p.listed);
-    say_stored(p);
+    say_byte(out, r.answer);
+    say_size(out, r.used);
+    say_size(out, p.planned);
+    say_size(out, p.listed);
+    say_stored(out, p);
 }
 
 // A playbook as the whole input, and at its front.
-fn read(s: &[u8]) {
-    say(b"whole");
-    say_outcome(playbook::read(s));
-    say(b" first");
-    say_outcome(playbook::read_first(s));
-    say(b"\n");
+fn read(out: &mut [u8; OUT], s: &[u8]) {
+    say(out, b"whole");
+    say_outcome(out, playbook::read(s));
+    say(out, b" first");
+    say_outcome(out, playbook::read_first(s));
+    say(out, b"\n");
 }
 
 // The store of a playbook, and the plan of the trigger in the first two bytes.
-fn show(s: &[u8]) {
+fn show(out: &mut [u8; OUT], s: &[u8]) {
     if s.len() < 2 {
         return;
     }
     let r = playbook::read(&s[2..]);
     let p = r.playbook;
-    say(b"store");
-    say_plans(p);
-    say_changes(p);
-    say(b" finds");
-    say_plan(playbook::plan_of(p, s[0], s[1]));
-    say(b"\n");
+    say(out, b"store");
+    say_plans(out, p);
+    say_changes(out, p);
+    say(out, b" finds");
+    say_plan(out, playbook::plan_of(p, s[0], s[1]));
+    say(out, b"\n");
 }
 
 fn with_plan(p: Playbook, at: usize, q: Plan) -> Playbook {
@@ -319,31 +320,31 @@ fn spread(p: Playbook, n: u8) -> Playbook {
 }
 
 // The store of a playbook, damaged as the first byte says, or spread over as many prefixes as the second says.
-fn damage(s: &[u8]) {
+fn damage(out: &mut [u8; OUT], s: &[u8]) {
     if s.len() < 2 {
         return;
     }
     let r = playbook::read(&s[2..]);
     let p = r.playbook;
-    say(b"damaged");
-    say_byte(s[0]);
+    say(out, b"damaged");
+    say_byte(out, s[0]);
     if s[1] == 0 {
-        say_stored(damaged(p, s[0]));
+        say_stored(out, damaged(p, s[0]));
     } else {
-        say_stored(spread(p, s[1]));
+        say_stored(out, spread(p, s[1]));
     }
-    say(b"\n");
+    say(out, b"\n");
 }
 
-fn run_case(letter: u8, s: &[u8]) {
+fn run_case(out: &mut [u8; OUT], letter: u8, s: &[u8]) {
     match letter {
-        b'S' => receive(End::Switch, s),
-        b'C' => receive(End::Controller, s),
-        b'W' => write(s),
-        b'P' => read(s),
-        b'L' => show(s),
-        b'D' => damage(s),
-        _ => say(b"unknown case\n"),
+        b'S' => receive(out, End::Switch, s),
+        b'C' => receive(out, End::Controller, s),
+        b'W' => write(out, s),
+        b'P' => read(out, s),
+        b'L' => show(out, s),
+        b'D' => damage(out, s),
+        _ => say(out, b"unknown case\n"),
     }
 }
 
@@ -352,22 +353,24 @@ fn length_of(s: &[u8]) -> usize {
     u16_at(s, 1) as usize
 }
 
-fn run(s: &[u8]) {
+fn run(out: &mut [u8; OUT], s: &[u8]) {
     let mut rest = s;
     while 3 <= rest.len() {
         let n = length_of(rest);
         let body = &rest[3..];
         if body.len() < n {
-            say(b"cut case\n");
+            say(out, b"cut case\n");
             return;
         }
-        run_case(rest[0], &body[0..n]);
+        run_case(out, rest[0], &body[0..n]);
         rest = &body[n..];
     }
 }
 
 fn main() {
+    let mut out = [0u8; OUT];
     let mut space = io::large_buffer();
     let n = io::read_full(STDIN_FILENO, &mut space);
-    run(&space[..n]);
+    run(&mut out, &space[..n]);
+    prose::say_end(&mut out);
 }

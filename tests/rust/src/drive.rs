@@ -1,4 +1,4 @@
-//! The program `drive`, whose script docs/DRIVE.md lays out: single calls at any end, and the line each prints.
+//! The program `drive`, whose script tests/DRIVE.md lays out: single calls at any end, and the line each prints.
 
 use crate::controller::{Controller, Undone};
 use crate::flow::{Action, Entry, Rule};
@@ -195,7 +195,7 @@ fn received(controller: &mut Controller, keys: &[u8], body: &[u8]) -> String {
     }
 }
 
-// The fields of a state, as docs/DRIVE.md lays them out: altering, printing and giving back follow from these lists.
+// The fields of a state, as tests/DRIVE.md lays them out: altering, printing and giving back follow from these lists.
 
 /// The numbers of a part of a state, as many as it has.
 pub type Values = [u32; 7];

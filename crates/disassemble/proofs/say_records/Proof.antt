@@ -6,15 +6,12 @@ use Rattle.disassemble.proofs.say_records.Statement.{statement}
 use Rattle.disassemble.proofs.say_records.Tie as tie
 
 abbrev Inv-loop : tie.InvT-loop
-Inv-loop s rest₀ rest = 0 ≤ length rest
+Inv-loop out₀ s rest₀ out rest = 0 ≤ length rest
 
 abbrev μ-loop : tie.MeasureT-loop
-μ-loop s rest₀ rest = length rest
+μ-loop out₀ s rest₀ out rest = length rest
 
 pub say-records-spec : {M : Type 1} → statement M
 say-records-spec =
     tie.close
-    (tie.spec Inv-loop μ-loop (λ c. search needs) (λ c κs. search needs) (λ c κs. search needs) (λ c κs. search needs)
-    (λ c. search needs) (λ c κs. search needs) (λ c. search needs) (λ c. search needs) (λ c. search needs)
-    (λ c. search needs) (λ c κs. search needs) (λ c. search needs) (λ c. search needs) (λ c. search needs)
-    (λ c. search needs) (λ c. search needs) (λ c. search needs))
+    (tie.spec Inv-loop μ-loop (λ c. search needs) (λ c κs. search needs) (λ c κs. search needs) (λ c κs. search needs) (λ c. search needs) (λ c κs. search needs) (λ c. search needs) (λ c. search needs) (λ c. search needs) (λ c. search needs) (λ c κs. search needs) (λ c. search needs) (λ c. search needs) (λ c. search needs) (λ c. search needs) (λ c. search needs) (λ c. search needs))

@@ -27,8 +27,8 @@ within c = printed-short _ _ (c .rehearse .ensures) (c .before .before .before .
 array-share-prefix-out : tie.Need-array-share-prefix-out
 array-share-prefix-out c = omega (arith, within (c .before))
 
-slice-aggregate-write-all : tie.Need-slice-aggregate-write-all
-slice-aggregate-write-all c =
+slice-aggregate-write : tie.Need-slice-aggregate-write
+slice-aggregate-write c =
     let printed = c .before .before in
     let size = printed .rehearse .result .length in
     sym (length-take-le size (printed .rehearse .last .1 .0) (omega (arith, within printed)))
@@ -38,4 +38,4 @@ main-spec =
     tie.close
     (tie.spec (λ c κs. search needs) (λ c. search needs) (λ c κs. search needs) (λ c κs. search needs)
     (λ c. search needs) (λ c. search needs) (λ c. search needs) (λ c κs. search needs) array-share-prefix-out
-    slice-aggregate-write-all (λ c κs. search needs) (λ c. search needs))
+    slice-aggregate-write (λ c κs. search needs) (λ c. search needs))

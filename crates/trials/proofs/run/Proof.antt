@@ -1,4 +1,4 @@
--- Every turn takes three bytes or more off the rest; t5 is the line of a case that is cut off. Assumes nothing.
+-- Every turn takes three bytes or more off the rest; t6 is the line of a case that is cut off. Assumes nothing.
 use mathlib.Core.Path.{_≡_}
 use lib.ListN.{length}
 use borrow.Author.Needs.{needs}
@@ -6,10 +6,10 @@ use Rattle.trials.proofs.run.Statement.{statement}
 use Rattle.trials.proofs.run.Tie as tie
 
 abbrev Inv-loop : tie.InvT-loop
-Inv-loop s rest₀ t5 rest = length t5 ≡ 9
+Inv-loop out₀ s rest₀ t6 out rest = length t6 ≡ 9
 
 abbrev μ-loop : tie.MeasureT-loop
-μ-loop s rest₀ t5 rest = length rest
+μ-loop out₀ s rest₀ t6 out rest = length rest
 
 pub run-spec : {M : Type 1} → statement M
 run-spec =

@@ -5,10 +5,10 @@ use Rattle.trials.proofs.say_changes.Statement.{statement}
 use Rattle.trials.proofs.say_changes.Tie as tie
 
 abbrev Inv-loop : tie.InvT-loop
-Inv-loop changes n i₀ i = i ≤ 512
+Inv-loop out₀ changes n i₀ out i = i ≤ 512
 
 abbrev μ-loop : tie.MeasureT-loop
-μ-loop changes n i₀ i = 512 - i
+μ-loop out₀ changes n i₀ out i = 512 - i
 
 pub say-changes-spec : {M : Type 1} → statement M
 say-changes-spec =

@@ -5,10 +5,10 @@ use Rattle.trials.proofs.say_plans.Statement.{statement}
 use Rattle.trials.proofs.say_plans.Tie as tie
 
 abbrev Inv-loop : tie.InvT-loop
-Inv-loop plans n i₀ i = i ≤ 64
+Inv-loop out₀ plans n i₀ out i = i ≤ 64
 
 abbrev μ-loop : tie.MeasureT-loop
-μ-loop plans n i₀ i = 64 - i
+μ-loop out₀ plans n i₀ out i = 64 - i
 
 pub say-plans-spec : {M : Type 1} → statement M
 say-plans-spec =

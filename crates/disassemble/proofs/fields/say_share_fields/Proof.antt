@@ -5,14 +5,12 @@ use Rattle.disassemble.proofs.fields.say_share_fields.Statement.{statem
 use Rattle.disassemble.proofs.fields.say_share_fields.Tie as tie
 
 abbrev Inv-loop : tie.InvT-loop
-Inv-loop share rest₀ count i₀ rest i = i ≤ count
+Inv-loop out₀ share rest₀ count i₀ out rest i = i ≤ count
 
 abbrev μ-loop : tie.MeasureT-loop
-μ-loop share rest₀ count i₀ rest i = count - i
+μ-loop out₀ share rest₀ count i₀ out rest i = count - i
 
 pub say-share-fields-spec : {M : Type 1} → statement M
 say-share-fields-spec =
     tie.close
-    (tie.spec Inv-loop μ-loop (λ c κs. search needs) (λ c κs. search needs) (λ c. search needs) (λ c κs. search needs)
-    (λ c κs. search needs) (λ c κs. search needs) (λ c κs. search needs) (λ c. search needs) (λ c. search needs)
-    (λ c. search needs) (λ c. search needs))
+    (tie.spec Inv-loop μ-loop (λ c κs. search needs) (λ c κs. search needs) (λ c. search needs) (λ c κs. search needs) (λ c κs. search needs) (λ c κs. search needs) (λ c κs. search needs) (λ c. search needs) (λ c. search needs) (λ c. search needs) (λ c. search needs))

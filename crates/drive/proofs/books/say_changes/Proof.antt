@@ -5,10 +5,10 @@ use Rattle.drive.proofs.books.say_changes.Statement.{statement}
 use Rattle.drive.proofs.books.say_changes.Tie as tie
 
 abbrev Inv-loop : tie.InvT-loop
-Inv-loop changes i₀ i = i ≤ 512
+Inv-loop out₀ changes i₀ out i = i ≤ 512
 
 abbrev μ-loop : tie.MeasureT-loop
-μ-loop changes i₀ i = 512 - i
+μ-loop out₀ changes i₀ out i = 512 - i
 
 pub say-changes-spec : {M : Type 1} → statement M
 say-changes-spec =

@@ -5,10 +5,10 @@ use Rattle.drive.proofs.controllers.say_held.Statement.{statement}
 use Rattle.drive.proofs.controllers.say_held.Tie as tie
 
 abbrev Inv-loop : tie.InvT-loop
-Inv-loop changes i₀ i = i ≤ 64
+Inv-loop out₀ changes i₀ out i = i ≤ 64
 
 abbrev μ-loop : tie.MeasureT-loop
-μ-loop changes i₀ i = 64 - i
+μ-loop out₀ changes i₀ out i = 64 - i
 
 pub say-held-spec : {M : Type 1} → statement M
 say-held-spec =

@@ -5,10 +5,10 @@ use Rattle.drive.proofs.controllers.say_numbers.Statement.{statement}
 use Rattle.drive.proofs.controllers.say_numbers.Tie as tie
 
 abbrev Inv-loop : tie.InvT-loop
-Inv-loop name numbers i₀ i = i ≤ 16
+Inv-loop out₀ name numbers i₀ out i = i ≤ 16
 
 abbrev μ-loop : tie.MeasureT-loop
-μ-loop name numbers i₀ i = 16 - i
+μ-loop out₀ name numbers i₀ out i = 16 - i
 
 pub say-numbers-spec : {M : Type 1} → statement M
 say-numbers-spec =

@@ -5,10 +5,10 @@ use Rattle.drive.proofs.switches.say_slots.Statement.{statement}
 use Rattle.drive.proofs.switches.say_slots.Tie as tie
 
 abbrev Inv-loop : tie.InvT-loop
-Inv-loop slots i₀ i = i ≤ 16
+Inv-loop out₀ slots i₀ out i = i ≤ 16
 
 abbrev μ-loop : tie.MeasureT-loop
-μ-loop slots i₀ i = 16 - i
+μ-loop out₀ slots i₀ out i = 16 - i
 
 pub say-slots-spec : {M : Type 1} → statement M
 say-slots-spec =

@@ -5,10 +5,10 @@ use Rattle.drive.proofs.switches.say_table.Statement.{statement}
 use Rattle.drive.proofs.switches.say_table.Tie as tie
 
 abbrev Inv-loop : tie.InvT-loop
-Inv-loop entries i₀ i = i ≤ 64
+Inv-loop out₀ entries i₀ out i = i ≤ 64
 
 abbrev μ-loop : tie.MeasureT-loop
-μ-loop entries i₀ i = 64 - i
+μ-loop out₀ entries i₀ out i = 64 - i
 
 pub say-table-spec : {M : Type 1} → statement M
 say-table-spec =

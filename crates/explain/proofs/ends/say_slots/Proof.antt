@@ -5,12 +5,13 @@ use Rattle.explain.proofs.ends.say_slots.Statement.{statement}
 use Rattle.explain.proofs.ends.say_slots.Tie as tie
 
 abbrev Inv-loop : tie.InvT-loop
-Inv-loop slots i₀ i = i ≤ 16
+Inv-loop out₀ slots i₀ out i = i ≤ 16
 
 abbrev μ-loop : tie.MeasureT-loop
-μ-loop slots i₀ i = 16 - i
+μ-loop out₀ slots i₀ out i = 16 - i
 
 pub say-slots-spec : {M : Type 1} → statement M
 say-slots-spec =
     tie.close
-    (tie.spec Inv-loop μ-loop (λ c. search needs) (λ c. search needs) (λ c. search needs) (λ c. search needs) (λ c κs. search needs) (λ c. search needs) (λ c. search needs) (λ c. search needs) (λ c. search needs))
+    (tie.spec Inv-loop μ-loop (λ c. search needs) (λ c. search needs) (λ c. search needs) (λ c. search needs)
+    (λ c κs. search needs) (λ c. search needs) (λ c. search needs) (λ c. search needs) (λ c. search needs))

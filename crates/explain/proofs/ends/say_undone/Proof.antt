@@ -5,10 +5,10 @@ use Rattle.explain.proofs.ends.say_undone.Statement.{statement}
 use Rattle.explain.proofs.ends.say_undone.Tie as tie
 
 abbrev Inv-loop : tie.InvT-loop
-Inv-loop changes count i₀ i = i ≤ 64
+Inv-loop out₀ lasts controller changes count i₀ out i = i ≤ 64
 
 abbrev μ-loop : tie.MeasureT-loop
-μ-loop changes count i₀ i = 64 - i
+μ-loop out₀ lasts controller changes count i₀ out i = 64 - i
 
 pub say-undone-spec : {M : Type 1} → statement M
 say-undone-spec =

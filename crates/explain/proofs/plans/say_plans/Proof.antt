@@ -5,12 +5,12 @@ use Rattle.explain.proofs.plans.say_plans.Statement.{statement}
 use Rattle.explain.proofs.plans.say_plans.Tie as tie
 
 abbrev Inv-loop : tie.InvT-loop
-Inv-loop book plans planned i₀ i = i ≤ 64
+Inv-loop out₀ book plans planned i₀ out i = i ≤ 64
 
 abbrev μ-loop : tie.MeasureT-loop
-μ-loop book plans planned i₀ i = 64 - i
+μ-loop out₀ book plans planned i₀ out i = 64 - i
 
 pub say-plans-spec : {M : Type 1} → statement M
 say-plans-spec =
     tie.close
-    (tie.spec Inv-loop μ-loop (λ c. search needs) (λ c. search needs) (λ c. search needs) (λ c. search needs) (λ c κs. search needs) (λ c. search needs) (λ c. search needs) (λ c. search needs) (λ c. search needs))
+    (tie.spec Inv-loop μ-loop (λ c. search needs) (λ c. search needs) (λ c. search needs) (λ c κs. search needs) (λ c. search needs) (λ c. search needs) (λ c. search needs) (λ c. search needs))

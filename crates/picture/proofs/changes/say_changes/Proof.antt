@@ -5,10 +5,10 @@ use Rattle.picture.proofs.changes.say_changes.Statement.{statement}
 use Rattle.picture.proofs.changes.say_changes.Tie as tie
 
 abbrev Inv-loop : tie.InvT-loop
-Inv-loop x steps columns count i₀ i = i ≤ 24
+Inv-loop out₀ x deeds columns count i₀ out i = i ≤ 24
 
 abbrev μ-loop : tie.MeasureT-loop
-μ-loop x steps columns count i₀ i = 24 - i
+μ-loop out₀ x deeds columns count i₀ out i = 24 - i
 
 pub say-changes-spec : {M : Type 1} → statement M
 say-changes-spec =

@@ -5,10 +5,10 @@ use Rattle.picture.proofs.names.say_lines.Statement.{statement}
 use Rattle.picture.proofs.names.say_lines.Tie as tie
 
 abbrev Inv-loop : tie.InvT-loop
-Inv-loop rows right i₀ i = i ≤ 16
+Inv-loop out₀ rows right i₀ out i = i ≤ 16
 
 abbrev μ-loop : tie.MeasureT-loop
-μ-loop rows right i₀ i = 16 - i
+μ-loop out₀ rows right i₀ out i = 16 - i
 
 pub say-lines-spec : {M : Type 1} → statement M
 say-lines-spec =

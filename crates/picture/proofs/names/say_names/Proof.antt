@@ -1,18 +1,17 @@
--- Each block of columns is looked at once. Assumes nothing.
-use Prim.Native.Nat.{_≤_, _-_}
+-- Each row is looked at once. Assumes nothing.
+use Prim.Native.Nat.{_-_, _≤_}
 use borrow.Author.Needs.{needs}
 use Rattle.picture.proofs.names.say_names.Statement.{statement}
 use Rattle.picture.proofs.names.say_names.Tie as tie
 
 abbrev Inv-loop : tie.InvT-loop
-Inv-loop rows count block₀ block = block ≤ 103
+Inv-loop out₀ rows i₀ out i = i ≤ 16
 
 abbrev μ-loop : tie.MeasureT-loop
-μ-loop rows count block₀ block = 103 - block
+μ-loop out₀ rows i₀ out i = 16 - i
 
 pub say-names-spec : {M : Type 1} → statement M
 say-names-spec =
     tie.close
-    (tie.spec Inv-loop μ-loop (λ c κs. search needs) (λ c κs. search needs) (λ c. search needs) (λ c. search needs)
-    (λ c κs. search needs) (λ c κs. search needs) (λ c. search needs) (λ c. search needs) (λ c. search needs)
-    (λ c. search needs))
+    (tie.spec Inv-loop μ-loop (λ c κs. search needs) (λ c. search needs) (λ c κs. search needs) (λ c κs. search needs)
+    (λ c. search needs) (λ c. search needs) (λ c. search needs) (λ c. search needs))

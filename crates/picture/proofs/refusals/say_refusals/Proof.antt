@@ -5,10 +5,10 @@ use Rattle.picture.proofs.refusals.say_refusals.Statement.{statement}
 use Rattle.picture.proofs.refusals.say_refusals.Tie as tie
 
 abbrev Inv-loop : tie.InvT-loop
-Inv-loop x met i₀ i = i ≤ 128
+Inv-loop out₀ x met i₀ out i = i ≤ 128
 
 abbrev μ-loop : tie.MeasureT-loop
-μ-loop x met i₀ i = 128 - i
+μ-loop out₀ x met i₀ out i = 128 - i
 
 pub say-refusals-spec : {M : Type 1} → statement M
 say-refusals-spec =
