@@ -144,7 +144,7 @@ announce() {
     began=$(date +%s)
     tell_pace
     meanwhile=
-    [ "$command" != rehearse ] || meanwhile='; examples/second-evening.explained.txt shows what will come'
+    [ "$command" != rehearse ] || [ -n "$only" ] || meanwhile='; examples/second-evening.explained.txt shows what will come'
     crates=crates
     [ "$of" -ne 1 ] || crates=crate
     say "bin/$command: proves and builds its programs first, once: $of $crates, $still$meanwhile"

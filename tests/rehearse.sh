@@ -177,8 +177,8 @@ echo 'controllers 4' >"$work/refused.txt"
 tried 'a playbook that is not there' 4 "$work/expected" '*notation*refused.txt: refused, *' \
     "$command" "$work/refused.txt"
 echo '0 20 0' >"$work/expected"
-printf 'controllers 17\nend\n' >"$work/refused.txt"
-tried 'too many controllers' 4 "$work/expected" '*notation*refused.txt: refused, *' "$command" "$work/refused.txt"
+printf '# many\ncontrollers 17\nend\n' >"$work/refused.txt"
+tried 'too many controllers' 4 "$work/expected" '*notation*refused.txt:2: refused, *' "$command" "$work/refused.txt"
 echo '1 31 0' >"$work/expected"
 printf 'controllers 4 # four\n\nend\n\n# the script\nplan switch 1 cause 1\nend\n' >"$work/refused.txt"
 tried 'a plan in the script' 4 "$work/expected" '*notation*refused.txt:6: the script stops here, *no record*' \

@@ -241,6 +241,8 @@ done_well() {
 }
 
 bad_usage() {
+    tried "$shell, --picture to standard output" 2 /dev/null '*a picture goes to a file*' \
+        by rehearse --picture - good.txt
     for command in rehearse assemble disassemble; do
         tried "$shell, $command without a file" 2 /dev/null '*usage: *' by $command
         tried "$shell, $command -- without a file" 2 /dev/null '*usage: *' by $command --
@@ -449,7 +451,7 @@ building() {
 # What a program is made of, and what not. Everything is built.
 rebuilding() {
     tried "$shell, without rt, and nothing to build" 0 explained.out '*' without_rt rehearse --explain good.txt
-    tried "$shell, a program more" 0 told.out '*once: 1 crate, about 30 seconds; *disassemble proved (3 s), 1 of 1*' \
+    tried "$shell, a program more" 0 told.out '*once: 1 crate, about 30 seconds*disassemble proved (3 s), 1 of 1*' \
         by rehearse --expand good.txt
     rm -f "$kit/log"
     touch "$tree/crates/base/must-fail/file" "$tree/crates/base/stdin" "$tree/crates/other/src/file" \

@@ -12,7 +12,7 @@
 8.  Agreed changes are those that the playbook plans for the agreed decisions, numbered from 1 in order. One is made if
     some record was answered 1 with its number, switch and rule.
 9.  A controller was not told of those of its undone changes whose number is not above their switch's last applied one.
-10. Usual refusals are 2, 16 and 26; the others are 10 and above.
+10. Usual refusals are 2, 16 and 26, but for the 26 of a deliver whose place is empty. All others are 10 and above.
 """
 import itertools
 
@@ -81,7 +81,7 @@ class Evening:
             call, _, given = found
             share, sender, switch = self.share(call, given)
         length, answer, _ = self.world.record(s)
-        self.answers.append(answer)
+        self.answers.append((answer, found not in (30, 31) and call == "deliver"))
         if found in (30, 31):
             return None
         if call == "decide" and answer == 0:
@@ -206,9 +206,12 @@ def untold(evening):
 
 
 def refusals(answers):
-    usual = ["%d %s (%d)" % (answers.count(k), USUAL[k][answers.count(k) > 1], k) for k in USUAL if k in answers]
+    """`answers` has each record's answer, and whether the record is a deliver."""
+    common = [answer for answer, deliver in answers if answer in USUAL and not (deliver and answer == 26)]
+    usual = ["%d %s (%d)" % (common.count(k), USUAL[k][common.count(k) > 1], k) for k in USUAL if k in common]
     yield "usual refusals: " + (", ".join(usual) or "none")
-    others = {k: answer for k, answer in enumerate(answers, 1) if answer > 2 and answer not in USUAL}
+    others = {k: answer for k, (answer, deliver) in enumerate(answers, 1)
+              if answer > 2 and (answer not in USUAL or deliver and answer == 26)}
     yield "other refusals: " + (named("record", others, lambda k: " (%d)" % others[k]) if others else "none")
 
 

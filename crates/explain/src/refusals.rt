@@ -1,5 +1,5 @@
 // What was refused: the usual refusals are counted, a repeat (2), a share that is too late (16) and nothing ready (26); of
-// the others each record's ordinal is told, with its answer.
+// the others each record's ordinal is told, with its answer. That nothing is kept in a place (26 too) is not usual.
 use crate::ranges::MARK;
 use crate::ranges::NUMBERS;
 use crate::ranges::say_named;
@@ -9,10 +9,39 @@ use prose::say;
 use prose::say_number;
 use rehearsal::DEEDS;
 use rehearsal::Deed;
+use rehearsal::Kind;
+
+// Stands for the answer of a `deliver` that found its place empty.
+const EMPTY: u8 = 126;
+
+fn is_deliver(kind: Kind) -> bool {
+    match kind {
+        Kind::Deliver => true,
+        _ => false,
+    }
+}
+
+fn code_of(kind: Kind, answer: u8) -> u8 {
+    if answer == answer::NOTHING_TO_SEND && is_deliver(kind) {
+        EMPTY
+    } else {
+        answer
+    }
+}
+
+fn answer_of(code: u8) -> u8 {
+    if code == EMPTY {
+        answer::NOTHING_TO_SEND
+    } else {
+        code
+    }
+}
 
 // The answers after a record; its place is counted from 0.
 pub(crate) fn note(answers: &mut [u8; DEEDS], place: usize, deed: Deed) {
-    answers[place % DEEDS] = deed.answer;
+    let item = deed.item;
+    let kind = item.kind;
+    answers[place % DEEDS] = code_of(kind, deed.answer);
 }
 
 fn one_more(count: usize) -> usize {
@@ -41,7 +70,7 @@ fn is_other(answer: u8) -> bool {
 
 fn add(numbers: &mut [u64; NUMBERS], count: usize, place: usize, answer: u8) {
     let ordinal = (place % DEEDS) as u64 + 1;
-    numbers[count % NUMBERS] = (answer as u64) * MARK + ordinal;
+    numbers[count % NUMBERS] = (answer_of(answer) as u64) * MARK + ordinal;
 }
 
 // The ordinals of the other refusals with their answers, at the front; how many there are.
