@@ -12,9 +12,10 @@ use borrow.Author.Tests.{ltb-true, leb-true, eqb-true, lt-ltb, le-leb, eq-eqb}
 use Rattle.answer.specs.Ask.{Question, pick, reply, firstNo}
 use Rattle.answer.proofs.Asked.{reply-ap, all-yes, some-no, answered, reply-keeps}
 use Rattle.answer.proofs.Bools.{tf}
+use Rattle.lists.specs.Frames.{placed}
 use Rattle.message.specs.Keys.{keyLength, keyAt}
 use Rattle.message.specs.Layout.{shareLength}
-use Rattle.message.specs.Writing.{encode, lengthOf, isMessage, placed}
+use Rattle.message.specs.Writing.{encode, lengthOf, isMessage}
 use Rattle.message.specs.Ranges.{InRange}
 use Rattle.message.specs.declared.Message.the-variants.{Share}
 use Rattle.message.proofs.Written.{Sent, placed-message, sent}

@@ -9,9 +9,10 @@ use native.Mathlib.Omega.{arith}
 use Rattle.answer.specs.Ask.{reply}
 use Rattle.answer.proofs.Bools.{and-parts}
 use Rattle.answer.proofs.Asked.{none-asked, refused, asked}
+use Rattle.lists.specs.Frames.{placed}
 use Rattle.flow.specs.Rules.{ruleKey, prefixOk, portOk, wellFormed}
 use Rattle.message.specs.Layout.{shareLength}
-use Rattle.message.specs.Writing.{encode, isMessage, portSaid, placed, writeTo}
+use Rattle.message.specs.Writing.{encode, isMessage, portSaid, writeTo}
 use Rattle.message.specs.declared.Message.{Message}
 use Rattle.message.proofs.Written.{nothing-written, all-written}
 use Rattle.controller.specs.States.{controllerOk}

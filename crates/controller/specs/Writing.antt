@@ -6,9 +6,10 @@ use lib.ListN.{length}
 use lib.Dec.{ltb}
 use Rattle.answer.specs.Ask.{Question, reply}
 use Rattle.answer.specs.Limits.{switchCount}
+use Rattle.lists.specs.Frames.{roomAt, placed}
 use Rattle.message.specs.Keys.{keyAt}
 use Rattle.message.specs.Layout.{shareLength}
-use Rattle.message.specs.Writing.{encode, isMessage, roomAt, placed}
+use Rattle.message.specs.Writing.{encode, isMessage}
 use Rattle.message.specs.declared.Message.{Message}
 use Rattle.message.specs.declared.Message.the-variants.{Share, Refused}
 use Rattle.controller.specs.States.{unchanged, stateQuestions}

@@ -47,7 +47,7 @@ fn share_answer(c: Controller, ok: bool, keys: &[u8], switch: u8, frame: &mut [u
     if limits::SWITCHES <= switch {
         return answer::UNKNOWN_ID;
     }
-    if !message::fits(frame.len(), at, message::layout::SHARE_LENGTH) {
+    if !lists::fits(frame.len(), at, message::layout::SHARE_LENGTH) {
         return answer::DOES_NOT_FIT;
     }
     let m = current_share(c, switch);

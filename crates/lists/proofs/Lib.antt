@@ -10,3 +10,5 @@ pub mod Rising
 pub mod Numbers
 pub mod Equal
 pub mod Runs
+pub mod Frames
+pub mod Layouts

@@ -62,12 +62,24 @@ be-add (suc a) b x =
 pub be-split : (a b x : ℕ) → be (a + b) x ≡ be a (x / 256 ^ b) ++ be b (x % 256 ^ b)
 be-split a b x = be-add a b x ∙ ap (λ (l : List ℕ). be a (x / 256 ^ b) ++ l) (sym (be-mod b x))
 
+pub be-one : (x : ℕ) → x < 256 → be 1 x ≡ x ∷ []
+unfolding be
+be-one x h = let p : x / 256 ^ 0 % 256 ≡ x = omega arith in ap (λ (y : ℕ). y ∷ []) p
+
 pub be-two : (x : ℕ) → x < 65536 → be 2 x ≡ x / 256 ∷ x % 256 ∷ []
 unfolding be
 be-two x h =
     let p : x / 256 ^ 1 % 256 ≡ x / 256 = omega arith in
     let q : x / 256 ^ 0 % 256 ≡ x % 256 = omega arith in
     ap₂ (λ (y z : ℕ). y ∷ z ∷ []) p q
+
+pub be-four : (x : ℕ) → x < 2 ^ 32
+    → be 4 x ≡ x / 0x100_0000 ∷ x / 0x1_0000 % 256 ∷ x / 256 % 256 ∷ x % 256 ∷ []
+unfolding be
+be-four x h =
+    let p : x / 256 ^ 3 % 256 ≡ x / 0x100_0000 = omega arith in
+    let q : x / 256 ^ 0 % 256 ≡ x % 256 = omega arith in
+    ap₂ (λ (y z : ℕ). y ∷ x / 0x1_0000 % 256 ∷ x / 256 % 256 ∷ z ∷ []) p q
 
 -- a number from its low bytes, and from all of them
 pub num-mod : (k x : ℕ) → num (be k x) ≡ x % 256 ^ k

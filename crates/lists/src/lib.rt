@@ -1,10 +1,18 @@
-// Definitions and laws of lists: arrays with a count as lists, tests of every element, different members, and numbers
-// as bytes. The crates above cite specs/ in their contracts and proofs/ in their proofs. The only code reads bytes, makes
-// numbers of them, lends parts of them and compares them.
+// Definitions and laws of lists: arrays with a count as lists, tests of every element, different members, numbers as
+// bytes, and bytes in a frame. The crates above cite specs/ in their contracts and proofs/ in their proofs. The only code
+// reads bytes, makes numbers of them, lends parts of them, compares them, and puts numbers into a frame.
 ghost use mathlib.Core.Path.{_≡_};
 ghost use mathlib.Core.List.{[], _∷_};
 ghost use lib.ListN.{take, drop};
 ghost use Rattle.lists.specs.Bytes.{num, byteAt, equal};
+
+mod writers;
+
+pub use writers::fits;
+pub use writers::put_u8;
+pub use writers::put_u16;
+pub use writers::put_u32;
+pub use writers::put_u64;
 
 // The number of two bytes, the higher first.
 pub fn u16_of(a: u8, b: u8) -> u16

@@ -2,17 +2,18 @@
 -- it, and every other byte of the frame is as it was; where it is refused the whole frame is. Assumes nothing.
 use mathlib.Core.Path.{_≡_, refl, sym, ap, _∙_, subst}
 use mathlib.Core.Bool.{true, false}
-use mathlib.Core.List.{List, [], _∷_, _++_, append-assoc}
+use mathlib.Core.List.{List, [], _∷_}
 use Prim.Native.Nat.{ℕ, _+_, _≤_, _<_}
 use native.Mathlib.Omega.{arith}
 use borrow.Author.Tests.{le-leb, lt-leb, leb-true}
-use lib.ListN.{length, take, drop, length-append, length-drop}
-use lib.Seq.{take-at, drop-at, length-take-le}
+use lib.ListN.{length, take, drop}
 use Rattle.answer.specs.Ask.{Question, firstNo}
 use Rattle.answer.proofs.Asked.{none-asked, refused, asked, by-reply, answered}
 use Rattle.lists.specs.Bytes.{AreBytes}
+use Rattle.lists.specs.Frames.{roomAt, placed}
+use Rattle.lists.proofs.Frames.{placed-there, placed-before, placed-after, placed-length}
 use Rattle.message.specs.Reading.{decode, numberOf, isSealed}
-use Rattle.message.specs.Writing.{encode, lengthOf, isMessage, portSaid, roomAt, placed, writeTo}
+use Rattle.message.specs.Writing.{encode, lengthOf, isMessage, portSaid, writeTo}
 use Rattle.message.specs.Ranges.{InRange, endOf}
 use Rattle.message.specs.declared.End.{End}
 use Rattle.message.specs.declared.Message.{Message}
@@ -22,23 +23,6 @@ use Rattle.message.proofs.Lengths.{encode-length}
 -- a reply beside the frame that it comes with
 pub with-frame : {A : Type 0} (frame : List ℕ) {r t : A} → r ≡ t → _≡_ {A = A × List ℕ} (r, frame) (t, frame)
 with-frame frame e = ap (λ r. (r, frame)) e
-
--- a frame with bytes at an offset
-module _ (w frame : List ℕ) (at : ℕ) (fit : at + length w ≤ length frame) where
-  before-length : length (take at frame) ≡ at
-  before-length = length-take-le at frame (omega arith)
-
-  placed-there : take (length w) (drop at (placed w frame at)) ≡ w
-  placed-there = rw (append-assoc, drop-at (take at frame) _ at before-length) (take-at w _ (length w) refl)
-
-  placed-before : take at (placed w frame at) ≡ take at frame
-  placed-before = rw append-assoc (take-at (take at frame) _ at before-length)
-
-  placed-after : drop (at + length w) (placed w frame at) ≡ drop (at + length w) frame
-  placed-after = drop-at (take at frame ++ w) _ (at + length w) (rw (length-append, before-length))
-
-  placed-length : length (placed w frame at) ≡ length frame
-  placed-length = rw (length-append, length-append, before-length, length-drop) (omega arith)
 
 -- a frame after a message was written with a key at an offset of it
 pub record Sent (key : List ℕ) (m : Message) (frame : List ℕ) (at : ℕ) (after : List ℕ) : Type 0 where

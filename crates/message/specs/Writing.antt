@@ -1,11 +1,12 @@
 -- The bytes of a message, and a frame with a message written at an offset (document 01, "Bytes" and questions 15, 25
 -- and 26).
-use Prim.Native.Nat.{ℕ, _+_}
+use Prim.Native.Nat.{ℕ}
 use mathlib.Core.Bool.{Bool, true}
 use mathlib.Core.List.{List, [], _∷_, _++_}
-use lib.ListN.{length, take, drop}
-use lib.Dec.{ltb, leb}
+use lib.ListN.{length}
+use lib.Dec.{ltb}
 use Rattle.answer.specs.Ask.{pick, reply}
+use Rattle.lists.specs.Frames.{roomAt, placed}
 use Rattle.flow.specs.Rules.{portOk}
 use Rattle.tag.specs.Tags.{tagOf}
 use Rattle.message.specs.Layout.{eventLength, shareLength, acknowledgementLength}
@@ -47,14 +48,6 @@ portSaid (Event s c n x) = true
 portSaid (Share c s n r) = portOk (r .action)
 portSaid (Acknowledgement s c n) = true
 portSaid (Refused k) = true
-
--- question 25: so many bytes fit from an offset of a frame
-abbrev pub roomAt : ℕ → ℕ → ℕ → Bool
-roomAt frame at n = leb (at + n) frame
-
--- a frame with bytes at an offset, all others as they were
-abbrev pub placed : List ℕ → List ℕ → ℕ → List ℕ
-placed w frame at = take at frame ++ w ++ drop (at + length w) frame
 
 -- writing at an offset: the answer, and the frame afterwards; a refused writing leaves it as it was
 abbrev pub writeTo : List ℕ → Message → List ℕ → ℕ → ℕ × List ℕ

@@ -6,10 +6,10 @@ ghost use lib.Seq.{sets};
 ghost use Rattle.message.specs.Layout.{acknowledgementBody, acknowledgementLength};
 ghost use Rattle.message.specs.Acknowledgements.{acknowledgementOf, acknowledgementBytes};
 use crate::Message;
-use crate::fields::put_u8;
-use crate::fields::put_u32;
 use crate::fields::u32_at;
 use crate::layout;
+use lists::put_u8;
+use lists::put_u32;
 
 pub(crate) fn read_acknowledgement(s: &[u8]) -> Message
     requires { ⌜ length (now s) ≡ acknowledgementLength ⌝ }

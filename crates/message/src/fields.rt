@@ -1,10 +1,9 @@
-// The fields of a message: numbers read from bytes, and numbers and tags written into a part of a frame that is lent.
+// The fields of a message: numbers read from bytes, and a tag written into a part of a frame that is lent.
 ghost use mathlib.Core.Path.{_≡_};
-ghost use mathlib.Core.List.{[], _∷_};
-ghost use Prim.Native.Nat.{_+_, _≤_, _<_};
+ghost use Prim.Native.Nat.{_+_, _≤_};
 ghost use lib.ListN.{length, take};
 ghost use lib.Seq.{sets};
-ghost use Rattle.lists.specs.Bytes.{be, field};
+ghost use Rattle.lists.specs.Bytes.{field};
 ghost use Rattle.tag.specs.Tags.{tagLength, tagOf};
 
 pub(crate) fn u16_at(s: &[u8], at: usize) -> u16
@@ -19,29 +18,6 @@ pub(crate) fn u32_at(s: &[u8], at: usize) -> u32
     ensures { λ r. ⌜ r ≡ field (now (s .entry)) at 4 ⌝ }
 {
     lists::u32_of(s[at], s[at + 1], s[at + 2], s[at + 3])
-}
-
-pub(crate) fn put_u8(part: &mut [u8], at: usize, x: u8)
-    requires { ⌜ at < length (now part) ⌝ }
-    ensures { λ _. ⌜ now (part .exit) ≡ sets (now (part .entry)) at (x ∷ []) ⌝ }
-{
-    part[at] = x;
-}
-
-pub(crate) fn put_u16(part: &mut [u8], at: usize, x: u16)
-    requires { ⌜ at + 2 ≤ length (now part) ⌝ }
-    ensures { λ _. ⌜ now (part .exit) ≡ sets (now (part .entry)) at (be 2 x) ⌝ }
-{
-    put_u8(part, at, (x / 256) as u8);
-    put_u8(part, at + 1, (x % 256) as u8);
-}
-
-pub(crate) fn put_u32(part: &mut [u8], at: usize, x: u32)
-    requires { ⌜ at + 4 ≤ length (now part) ⌝ }
-    ensures { λ _. ⌜ now (part .exit) ≡ sets (now (part .entry)) at (be 4 x) ⌝ }
-{
-    put_u16(part, at, (x / 65536) as u16);
-    put_u16(part, at + 2, (x % 65536) as u16);
 }
 
 pub(crate) fn put_tag(part: &mut [u8], at: usize, t: [u8; tag::LENGTH])

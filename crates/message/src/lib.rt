@@ -16,7 +16,6 @@ pub use reading::is_sealed;
 pub use reading::number;
 pub use reading::read;
 pub use senders::sender_question;
-pub use writing::fits;
 pub use writing::length_of;
 pub use writing::write;
 

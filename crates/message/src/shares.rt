@@ -6,13 +6,13 @@ ghost use lib.Seq.{sets};
 ghost use Rattle.message.specs.Layout.{shareBody, shareLength};
 ghost use Rattle.message.specs.Shares.{shareOf, shareBytes};
 use crate::Message;
-use crate::fields::put_u8;
-use crate::fields::put_u16;
-use crate::fields::put_u32;
 use crate::fields::u16_at;
 use crate::fields::u32_at;
 use crate::layout;
 use flow::Rule;
+use lists::put_u8;
+use lists::put_u16;
+use lists::put_u32;
 
 pub(crate) fn read_share(s: &[u8]) -> Message
     requires { ⌜ length (now s) ≡ shareLength ⌝ }

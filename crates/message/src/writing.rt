@@ -3,7 +3,7 @@ ghost use mathlib.Core.Path.{_≡_};
 ghost use Prim.Native.Nat.{_≤_};
 ghost use lib.ListN.{length};
 ghost use lib.Seq.{sets};
-ghost use Rattle.message.specs.Writing.{encode, lengthOf, portSaid, roomAt, writeTo};
+ghost use Rattle.message.specs.Writing.{encode, lengthOf, portSaid, writeTo};
 use crate::Message;
 use crate::acknowledgements::put_acknowledgement;
 use crate::events::put_event;
@@ -102,17 +102,6 @@ fn port_said(m: Message) -> bool
     }
 }
 
-// Question 25: whether n bytes fit from an offset of a frame, for every offset.
-pub fn fits(frame: usize, at: usize, n: usize) -> bool
-    ensures { λ r. ⌜ r ≡ roomAt frame at n ⌝ }
-{
-    if at <= frame {
-        if n <= frame - at { true } else { false }
-    } else {
-        false
-    }
-}
-
 // A message written at an offset of a frame, after questions 15, 25 and 26. A refusal is nothing to send.
 pub fn write(m: Message, key: &[u8], frame: &mut [u8], at: usize) -> u8
     ensures { λ r. ⌜ (r, now (frame .exit)) ≡ writeTo (now (key .entry)) m (now (frame .entry)) at ⌝ }
@@ -121,7 +110,7 @@ pub fn write(m: Message, key: &[u8], frame: &mut [u8], at: usize) -> u8
         return answer::MALFORMED_RULE;
     }
     let n = length_of(m);
-    if !fits(frame.len(), at, n) {
+    if !lists::fits(frame.len(), at, n) {
         return answer::DOES_NOT_FIT;
     }
     if n == 0 {

@@ -10,9 +10,9 @@ use lib.Seq.{take-all, take-append-le}
 use Rattle.answer.specs.Ask.{pick}
 use Rattle.answer.proofs.Bools.{by-le}
 use Rattle.lists.specs.Arrays.{pad}
+use Rattle.lists.specs.Frames.{placed}
 use Rattle.message.specs.Keys.{keyOf, joined}
 use Rattle.message.specs.Layout.{shareLength, acknowledgementLength}
-use Rattle.message.specs.Writing.{placed}
 use Rattle.message.proofs.Stores.{joined-length}
 use Rattle.switch.specs.Receiving as switch-receives
 use Rattle.switch.specs.Writing.{acknowledgementWritten}

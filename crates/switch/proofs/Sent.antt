@@ -10,8 +10,9 @@ use lib.ListN.{length, take, drop}
 use borrow.Author.Tests.{ltb-true, leb-true, eqb-true}
 use Rattle.answer.specs.Ask.{Question, firstNo}
 use Rattle.answer.proofs.Asked.{reply-ap, all-yes, some-no, answered, reply-keeps}
+use Rattle.lists.specs.Frames.{placed}
 use Rattle.message.specs.Keys.{keyLength, keyAt}
-use Rattle.message.specs.Writing.{encode, lengthOf, isMessage, portSaid, placed}
+use Rattle.message.specs.Writing.{encode, lengthOf, isMessage, portSaid}
 use Rattle.message.specs.Ranges.{InRange}
 use Rattle.message.specs.declared.Message.{Message}
 use Rattle.message.proofs.Written.{Sent, placed-message, sent as message-sent}

@@ -6,8 +6,9 @@ use mathlib.Core.List.{List, [], _∷_, _++_}
 use lib.ListN.{length}
 use lib.Dec.{ltb}
 use Rattle.answer.specs.Ask.{Question, reply}
+use Rattle.lists.specs.Frames.{roomAt, placed}
 use Rattle.message.specs.Keys.{keyAt}
-use Rattle.message.specs.Writing.{encode, lengthOf, roomAt, placed}
+use Rattle.message.specs.Writing.{encode, lengthOf}
 use Rattle.message.specs.declared.Message.{Message}
 use Rattle.message.specs.declared.Message.the-variants.{Event, Acknowledgement}
 use Rattle.switch.specs.States.{unchanged, stateQuestions}

@@ -32,7 +32,7 @@ fn write(
     if s.n <= controller {
         return answer::UNKNOWN_ID;
     }
-    if !message::fits(frame.len(), at, message::length_of(m)) {
+    if !lists::fits(frame.len(), at, message::length_of(m)) {
         return answer::DOES_NOT_FIT;
     }
     if !there {

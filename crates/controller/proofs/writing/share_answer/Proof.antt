@@ -10,9 +10,10 @@ use borrow.Author.Tests.{not-true, not-false, lt-ltb, le-ltb, eq-eqb, leb-true}
 use lib.ListN.{length, drop}
 use Rattle.answer.specs.Ask.{reply, firstNo}
 use Rattle.answer.proofs.Asked.{refused, asked, stopped, reply-ap}
+use Rattle.lists.specs.Frames.{roomAt, placed}
 use Rattle.message.specs.Keys.{keyLength, keyAt}
 use Rattle.message.specs.Layout.{shareLength}
-use Rattle.message.specs.Writing.{encode, roomAt, placed, writeTo}
+use Rattle.message.specs.Writing.{encode, writeTo}
 use Rattle.message.specs.declared.Message.{Message}
 use Rattle.message.proofs.Lent.{key-lent}
 use Rattle.controller.specs.States.{unchanged, controllerOk, stateQuestions}

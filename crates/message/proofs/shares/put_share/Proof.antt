@@ -1,6 +1,6 @@
 -- `put_share` meets its contract: each field is stored after the one before it. Assumes nothing.
 use borrow.Author.Needs.{needs}
-use Rattle.message.proofs.Frames.{share-stored}
+use Rattle.message.proofs.Frames.{share-put}
 use Rattle.message.proofs.shares.put_share.Statement.{statement}
 use Rattle.message.proofs.shares.put_share.Tie as tie
 
@@ -15,8 +15,9 @@ returns c =
     let controller = switch .before .before .before .before in
     let kind = controller .before .before .before .before in
     let start = kind .before .before in
-    let a = start .before .before .args in
-    share-stored (a .part .now) _ _ _ (a .rule) (start .port-of .ensures) (kind .put-u8 .ensures)
+    let c0 = start .before .before in
+    let a = c0 .args in
+    share-put (a .part .now) _ _ _ (a .rule) (c0 .pre) (start .port-of .ensures) (kind .put-u8 .ensures)
     (controller .put-u82 .ensures) (switch .put-u83 .ensures) (number .put-u32 .ensures) (prefix .put-u322 .ensures)
     (length .put-u84 .ensures) (port .put-u16 .ensures)
 

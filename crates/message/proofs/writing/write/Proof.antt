@@ -9,9 +9,9 @@ use borrow.Author.Needs.{needs}
 use borrow.Author.Tests.{not-true, not-false, leb-true, leb-false, le-leb, lt-leb}
 use lib.ListN.{length, length-take, length-drop}
 use Rattle.answer.proofs.Bools.{by-le}
+use Rattle.lists.proofs.Frames.{part-back}
 use Rattle.message.specs.Writing.{encode, lengthOf, isMessage, portSaid}
 use Rattle.message.specs.declared.Message.{Message}
-use Rattle.message.proofs.Frames.{part-back}
 use Rattle.message.proofs.Lengths.{encode-length}
 use Rattle.message.proofs.Written.{nothing-written, malformed-written, too-long-written, all-written}
 use Rattle.message.proofs.writing.write.Statement.{statement}

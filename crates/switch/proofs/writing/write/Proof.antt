@@ -10,8 +10,9 @@ use borrow.Author.Tests.{not-true, not-false, lt-ltb, le-ltb, eq-eqb, leb-true}
 use lib.ListN.{length, drop}
 use Rattle.answer.specs.Ask.{reply}
 use Rattle.answer.proofs.Asked.{none-asked, refused, asked, stopped}
+use Rattle.lists.specs.Frames.{roomAt, placed}
 use Rattle.message.specs.Keys.{keyLength, keyAt}
-use Rattle.message.specs.Writing.{encode, lengthOf, roomAt, placed, writeTo}
+use Rattle.message.specs.Writing.{encode, lengthOf, writeTo}
 use Rattle.message.proofs.Lent.{key-lent}
 use Rattle.message.proofs.Written.{all-written}
 use Rattle.switch.specs.States.{unchanged, switchOk, stateQuestions}

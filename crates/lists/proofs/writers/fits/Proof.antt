@@ -3,8 +3,8 @@ use mathlib.Core.Path.{sym}
 use Prim.Native.Nat.{_+_}
 use native.Mathlib.Omega.{arith}
 use borrow.Author.Tests.{le-leb, lt-leb}
-use Rattle.message.proofs.writing.fits.Statement.{statement}
-use Rattle.message.proofs.writing.fits.Tie as tie
+use Rattle.lists.proofs.writers.fits.Statement.{statement}
+use Rattle.lists.proofs.writers.fits.Tie as tie
 
 returns : tie.Need-returns
 returns c = let a = c .before .before .args in sym (le-leb (a .at + a .n) (a .frame) (omega arith))
