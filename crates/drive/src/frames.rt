@@ -22,10 +22,15 @@ pub(crate) fn lent_of(body: &[u8], size: usize) -> usize
     at_most(byte_at(body, 0) as usize, size)
 }
 
-// The offset, eight bytes after the receiver's.
-pub(crate) fn offset_of(body: &[u8]) -> usize {
-    let wide = (u32_at(body, 2) as u64) * 4294967296 + (u32_at(body, 6) as u64);
+// The offset of eight bytes, by its halves.
+pub(crate) fn offset(high: u32, low: u32) -> usize {
+    let wide = (high as u64) * 4294967296 + (low as u64);
     wide as usize
+}
+
+// The offset that stands after the receiver's byte.
+pub(crate) fn offset_of(body: &[u8]) -> usize {
+    offset(u32_at(body, 2), u32_at(body, 6))
 }
 
 pub(crate) fn say_frame(out: &mut [u8; OUT], frame: &[u8; SIZE]) {

@@ -2,6 +2,7 @@
 // frame and the fields of the state. tests/DRIVE.md tells the script and the lines.
 mod books;
 mod controllers;
+mod flow_mods;
 mod frames;
 mod stores;
 mod switches;
@@ -41,6 +42,7 @@ enum Call {
     SwitchKeys,
     ControllerKeys,
     Book,
+    FlowMod,
 }
 
 fn call_of(letter: u8) -> Call {
@@ -65,6 +67,7 @@ fn call_of(letter: u8) -> Call {
         b'k' => Call::ControllerKeys,
         b'b' => Call::Book,
         b'f' => Call::Book,
+        b'F' => Call::FlowMod,
         _ => Call::Unknown,
     }
 }
@@ -195,6 +198,10 @@ fn follow(out: &mut [u8; OUT], script: &[u8]) {
                 Call::Book => {
                     let book = book_of(out, letter, end, body);
                     world.book = book;
+                    rest = &from[n..];
+                }
+                Call::FlowMod => {
+                    flow_mods::write(out, body);
                     rest = &from[n..];
                 }
             }

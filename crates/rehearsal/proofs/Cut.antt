@@ -10,11 +10,16 @@ use lib.ListN.{length, take, drop, length-take, length-drop}
 use lib.Seq.{take-all}
 use Rattle.answer.specs.Ask.{reply}
 use Rattle.answer.proofs.Bools.{tf, by-le}
+use Rattle.playbook.specs.Books.{noPlans, storeOf}
 use Rattle.playbook.specs.Reading.{readFirst}
 use Rattle.playbook.proofs.Exact.{read-length}
 use Rattle.playbook.proofs.Front.{read-front}
 use Rattle.rehearsal.specs.Limits.{longestScript, longestInput}
-use Rattle.rehearsal.specs.Scripts.{linesOf}
+use Rattle.rehearsal.specs.Worlds.{worldOf}
+use Rattle.rehearsal.specs.Scripts.{lineOf, linesFrom, scriptIn, inputQuestions, worldIn, linesOf}
+use Rattle.rehearsal.specs.Deeds.{deedsFrom, toldBy, toldOf}
+use Rattle.rehearsal.specs.declared.Dropped.{Dropped}
+use Rattle.rehearsal.specs.declared.World.{World}
 
 -- the longest input that can be rehearsed, and one byte more
 abbrev pub looked : ℕ
@@ -40,20 +45,38 @@ too-long rest long =
 some : (x : ℕ) (rest : List ℕ) → ltb 0 (length (x ∷ rest)) ≡ true
 some x rest = lt-ltb 0 (length (x ∷ rest)) (omega arith)
 
-cut-long : (x : ℕ) (rest : List ℕ) → longestInput ≤ length rest → linesOf (x ∷ take longestInput rest) ≡ linesOf (x ∷ rest)
-unfolding linesOf
-cut-long x rest long =
-    let same = read-front rest longestInput (omega arith) in
-    let left = too-long (take longestInput rest) (rw length-take (omega arith)) in
-    rw (some x (take longestInput rest), some x rest, same, rw same at left, too-long rest long)
-    (no-next _ _ _ 30 20 (readFirst rest .answer) 28 _ _ _ false refl)
+-- what follows the questions of an input: a refusal, or what comes of its script and the world before it
+abbrev afterQuestions : {A : Type 0} → (ℕ → A) → (List ℕ → World → A) → List ℕ → A
+afterQuestions refusal next input = reply (inputQuestions input) refusal (next (scriptIn input) (worldIn input))
 
+-- it is the same of an input and of its first bytes, one more than can be rehearsed
+module _ {A : Type 0} (refusal : ℕ → A) (next : List ℕ → World → A) where
+  cut-long : (x : ℕ) (rest : List ℕ) → longestInput ≤ length rest
+      → afterQuestions refusal next (x ∷ take longestInput rest) ≡ afterQuestions refusal next (x ∷ rest)
+  cut-long x rest long =
+      let same = read-front rest longestInput (omega arith) in
+      let left = too-long (take longestInput rest) (rw length-take (omega arith)) in
+      rw (some x (take longestInput rest), some x rest, same, rw same at left, too-long rest long)
+      (no-next _ _ _ 30 20 (readFirst rest .answer) 28 _ _ _ false refl)
+
+  cut-after : (input : List ℕ) → afterQuestions refusal next (take looked input) ≡ afterQuestions refusal next input
+  cut-after input =
+      by-le (length input) longestInput
+      (λ short. ap (afterQuestions refusal next) (take-all looked input (omega arith)))
+      (λ long. longer input long)
+    where
+      longer : (l : List ℕ) → longestInput < length l
+          → afterQuestions refusal next (take looked l) ≡ afterQuestions refusal next l
+      longer [] h = absurd (omega arith)
+      longer (x ∷ rest) h = cut-long x rest (omega arith)
+
+-- the lines, and what is told
 pub cut-same : (input : List ℕ) → linesOf (take looked input) ≡ linesOf input
-cut-same input =
-    by-le (length input) longestInput
-    (λ short. ap linesOf (take-all looked input (omega arith)))
-    (λ long. longer input long)
-  where
-    longer : (l : List ℕ) → longestInput < length l → linesOf (take looked l) ≡ linesOf l
-    longer [] h = absurd (omega arith)
-    longer (x ∷ rest) h = cut-long x rest (omega arith)
+unfolding linesOf
+cut-same = cut-after (λ q. lineOf 0 q 0 ∷ []) (λ script world. linesFrom 0 script 1 world)
+
+pub cut-told : (d : Dropped) (input : List ℕ) → toldOf d (take looked input) ≡ toldOf d input
+unfolding toldOf
+cut-told d =
+    cut-after (λ q. toldBy q ([], worldOf 0 (storeOf noPlans)))
+    (λ script world. toldBy 0 (deedsFrom d 0 script world))

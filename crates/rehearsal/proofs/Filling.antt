@@ -34,13 +34,13 @@ key-put key long i a b h is =
     ∙ sym (append-assoc before (a ∷ b ∷ replicate 30 0) left))
 
 module _ {A : Type 0} (f : ℕ → A) where
-  each-length : (n : ℕ) → length (each f n) ≡ n
+  pub each-length : (n : ℕ) → length (each f n) ≡ n
   unfolding each
   each-length zero = refl
   each-length (suc n) = length-append (each f n) (f n ∷ []) ∙ omega (arith, each-length n)
 
   -- each thing stands at its number
-  each-at : (n i : ℕ) (z : A) → i < n → getD (each f n) i z ≡ f i
+  pub each-at : (n i : ℕ) (z : A) → i < n → getD (each f n) i z ≡ f i
   unfolding each
   each-at zero i z h = absurd (omega arith)
   each-at (suc n) i z h =

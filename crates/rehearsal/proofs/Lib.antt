@@ -1,4 +1,4 @@
--- Laws of the rehearsal. Filling, Inputs, Making and Putting are for this crate's own functions.
+-- Laws of the rehearsal. Inputs, Making and Putting are for this crate's own functions.
 pub mod Fields
 pub mod Turns
 pub mod Telling
@@ -8,7 +8,8 @@ pub mod Room
 pub mod Cut
 pub mod Named
 pub mod Shares
-mod Filling
+pub mod Filling
+pub mod Doing
 mod Inputs
 mod Making
 mod Putting

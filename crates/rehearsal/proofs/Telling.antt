@@ -1,28 +1,28 @@
 -- What is told, and its lines: with nobody's shares dropped a record does what document 01 says, and the lines of the
 -- deeds are those of the rehearsal.
-use mathlib.Core.Path.{_≡_, refl, sym, ap, ap₂, _∙_}
+use mathlib.Core.Path.{_≡_, refl, sym, ap, _∙_}
 use mathlib.Core.Bool.{true, false}
 use mathlib.Core.List.{List, [], _∷_}
 use Prim.Native.Nat.{ℕ, zero, suc, _+_, _-_, _≤_, _<_}
 use native.Mathlib.Omega.{arith}
 use borrow.Author.Tests.{leb-true, eq-eqb, ne-eqb}
-use lib.Dec.{leb}
 use lib.ListN.{length, take, drop, getD, set, replicate, length-take, length-drop}
 use lib.Seq.{take-all, length-take-le, getD-take}
 use Rattle.answer.specs.Ask.{Question, reply}
 use Rattle.answer.proofs.Asked.{reply-ap}
 use Rattle.lists.specs.Arrays.{pad}
 use Rattle.lists.proofs.Padding.{pad-none, pad-length, pad-take, pad-snoc, pad-step}
+use Rattle.playbook.specs.Books.{noPlans, storeOf}
 use Rattle.switch.specs.declared.Switch.{Switch}
 use Rattle.controller.specs.declared.Controller.{Controller}
-use Rattle.rehearsal.specs.Worlds.{stored, bytesOf}
+use Rattle.rehearsal.specs.Worlds.{worldOf}
 use Rattle.rehearsal.specs.Records.{sizeOf, recordAt}
 use Rattle.rehearsal.specs.Steps.{delivered, bySwitch, sent, carriedOut}
 use Rattle.rehearsal.specs.Effects.{placeOf, recordQuestions, withEnds, switchOf, carriedIn, worldAfter}
-use Rattle.rehearsal.specs.Scripts.{lineOf, recordLines, nextLines, linesFrom, scriptIn, worldIn, linesOf}
+use Rattle.rehearsal.specs.Scripts.{lineOf, nextLines, linesFrom, scriptIn, worldIn, linesOf}
 use Rattle.rehearsal.specs.Storing.{noLine, linesStored}
 use Rattle.rehearsal.specs.Deeds.{shareIn, drops, arrived, carriedBut, plainDeed, brokenDeed, begunDeed, movedIn}
-use Rattle.rehearsal.specs.Deeds.{deedIn, worldBut, Tale, recordDeeds, nextDeeds, deedsFrom, toldBy, toldOf}
+use Rattle.rehearsal.specs.Deeds.{Tale, nextDeeds, deedsFrom, toldBy, toldOf}
 use Rattle.rehearsal.specs.Deeds.{deedLines, linesTold}
 use Rattle.rehearsal.specs.declared.Deed.{Deed}
 use Rattle.rehearsal.specs.declared.Dropped.the-variants.{Nobody}
@@ -138,19 +138,32 @@ told-lines input =
     (λ some few short.
     lines-of-deeds (scriptIn input) (worldIn input) (leb-true (length (scriptIn input)) 8192 short))
 
+-- the two cases of what is told: a refused input and no deed, or the script's deeds, which have room, and the world
+-- after the last
+pub told-cases : {C : Type 0} (input : List ℕ)
+    → ((q : ℕ) → (q ≡ 0 → ⊥) → toldOf Nobody input ≡ toldBy q ([], worldOf 0 (storeOf noPlans)) → C)
+    → (toldOf Nobody input ≡ toldBy 0 (deedsFrom Nobody 0 (scriptIn input) (worldIn input))
+    → length (deedsFrom Nobody 0 (scriptIn input) (worldIn input) .0) ≤ 4096 → C)
+    → C
+unfolding toldOf
+told-cases {C} input =
+    let script = scriptIn input in
+    let world = worldIn input in
+    beside
+    (λ (t : Told) (k : ℕ). ((q : ℕ) → (q ≡ 0 → ⊥) → t ≡ toldBy q ([], worldOf 0 (storeOf noPlans)) → C)
+    → (t ≡ toldBy 0 (deedsFrom Nobody 0 script world) → length (deedsFrom Nobody 0 script world .0) ≤ 4096 → C) → C)
+    input _ _ (λ k. k) 0 (λ k other refuses tells. refuses k other refl)
+    (λ some few short refuses tells. tells refl (few-deeds script world (leb-true (length script) 8192 short)))
+
 -- there is a place for each deed
 pub told-room : (input : List ℕ) {t : Told} → t ≡ toldOf Nobody input
     → (t .count ≤ 4096) × (t .count ≤ length (t .deeds))
-unfolding toldOf
 told-room input e =
     rw e
-    (beside (λ (t : Told) (k : ℕ). (t .count ≤ 4096) × (t .count ≤ length (t .deeds))) input _ _ (λ k. k) 0
-    (λ k other. (omega arith, omega arith))
-    (λ some few short.
-    let world = worldIn input in
-    let script = scriptIn input in
-    let fits = few-deeds script world (leb-true (length script) 8192 short) in
-    (fits, omega (arith, pad-length 4096 (brokenDeed 0) (deedsFrom Nobody 0 script world .0)))))
+    (told-cases input (λ q other is. rw is (omega arith, omega arith))
+    (λ is fits.
+    let deeds = deedsFrom Nobody 0 (scriptIn input) (worldIn input) .0 in
+    rw is (fits, omega (arith, pad-length 4096 (brokenDeed 0) deeds))))
 
 -- the lines of a fault, and of deeds
 pub fault-lines : (t : Told) → (t .answer ≡ 0 → ⊥) → linesTold t ≡ lineOf 0 (t .answer) 0 ∷ []

@@ -1,0 +1,3 @@
+-- The rules that a switch applied, and their FLOW_MODs.
+pub mod Rules
+pub mod Mods
