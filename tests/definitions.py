@@ -1,6 +1,7 @@
 """Runs the definitions of crates/*/specs as text (tests/evaluate.py), and compares what they give with document 01 as
 the models in Python have it: hashes, messages, playbooks, calls at a switch and at a controller, runs with the ideal
-controller, and rehearsals. No prover and no code has a part in it. What is a proposition and no value is not run.
+controller, rehearsals, and FLOW_MODs. No prover and no code has a part in it. What is a proposition and no value is not
+run.
 
     python3 tests/definitions.py [FOLDER]     what differs, for the definitions below a folder
 """
@@ -13,6 +14,7 @@ import sys
 import drills
 import duties
 import evaluate
+import flowmods
 import rehearsals
 import trials
 from driven import ControllerCalls, SwitchCalls, rule_of, rule_text
@@ -34,6 +36,8 @@ WHERE = {
     "domain/Claim": "made answered highest numbersAt unmade changesOf", "edges/Asking": "example answerTo",
     "edges/Table": "table", "edges/Beside": "beside", "witness/Evening": "evening evening-calls answers",
     "witness/Played": "rounds", "rehearsal/Scripts": "rehearsed", "rehearsal/Storing": "begunOf",
+    "openflow/Writing": "flowModWritten", "openflow/Reading": "numberIn ruleIn",
+    "feed/Rules": "appliedOf rulesIn", "feed/Mods": "modsWritten",
 }
 SECRET = tuple(trials.KEY)
 # Of the cases, those that are soon rehearsed: so many bytes, changes in the playbook, and lines.
@@ -316,6 +320,24 @@ def scripted(seed):
     return bytes([3 + seed % 2]) + duties.EVENING.bytes() + script
 
 
+def applied(c, name, s, switches):
+    """What switches applied in a rehearsal, each rule with its number; their FLOW_MODs, with room for them or one byte
+    less."""
+    for switch in switches:
+        found = c.of["feed", "appliedOf"](switch, tuple(s))
+        rules = tuple((slot["number"], rule_text(slot["rule"])) for slot in found["rules"][:found["count"]])
+        answer, mods = flowmods.applied(bytes([switch]) + s)
+        c.same("%s at switch %d" % (name, switch), (found["answer"], rules),
+               (answer, tuple((number, duties.rule_shown(rule)) for number, rule in mods)))
+        wanted = flowmods.in_bytes(mods)
+        for room in {len(wanted), max(len(wanted) - 1, 0)}:
+            w = c.of["feed", "modsWritten"](c.of["feed", "rulesIn"](found), (0,) * room)
+            fits = len(wanted) <= room
+            c.same("FLOW_MODs of %s at switch %d in %d bytes" % (name, switch, room),
+                   (w["0"]["answer"], w["0"]["length"], bytes(w["1"])),
+                   (0, len(wanted), wanted) if fits else (25, 0, bytes(room)))
+
+
 def rehearsed(c):
     """Inputs with random scripts; what each case of tests/cases is before its script, and the shorter ones whole."""
     inputs = [("script %d" % seed, scripted(seed)) for seed in range(8)]
@@ -327,11 +349,28 @@ def rehearsed(c):
             if len(lines) <= MOST_LINES or name.startswith("script"):
                 printed = c.of["rehearsal", "rehearsed"](tuple(s), (0,) * 1000)
                 c.same(name, bytes(printed["1"][:printed["0"]["length"]]), rehearsals.text(lines))
+                if name.startswith("script"):
+                    applied(c, name, s, (2, 16))
+
+
+def written(c):
+    """FLOW_MODs written into frames: the calls that `drive` is given, the length beside them. What was written tells
+    number and rule."""
+    for what in flowmods.writings(True).asked:
+        size, offset, number, *fields = what
+        w = c.of["openflow", "flowModWritten"](number, rule_of(*fields), (0xEE,) * size, offset)
+        answer, length, frame = flowmods.called(*what)
+        found = w["0"]["answer"], w["0"]["length"], bytes(w["1"])
+        c.same("FLOW_MOD %s" % (what,), found, (answer, length, frame))
+        if answer == 0:
+            s = tuple(frame[offset:offset + length])
+            c.same("number in %s" % (s,), c.of["openflow", "numberIn"](s), number)
+            c.same("rule in %s" % (s,), rule_text(c.of["openflow", "ruleIn"](s)), rule_text(rule_of(*fields)))
 
 
 def main():
     c = Compared(sys.argv[1] if sys.argv[1:] else ".")
-    for part in (tags, messages, calls, runs, examples, playbooks, rehearsed):
+    for part in (tags, messages, written, calls, runs, examples, playbooks, rehearsed):
         part(c)
     print("%d comparisons" % c.count)
     return 0

@@ -6,7 +6,7 @@
 set -u
 script=examples.sh
 . tests/counting
-there assemble disassemble explain picture rehearse survey
+there assemble disassemble explain flowlist flowmods picture rehearse survey
 
 # The examples
 
@@ -131,6 +131,27 @@ sed '4s/switch/swich/' "$work/tonight.txt" >"$work/faulty.txt"
 "$programs/assemble" <"$work/faulty.txt" 2>&1 | sed 's/^/tonight.txt:/' >"$work/fault"
 block $page tonight.txt: | cmp - "$work/fault"
 ended $? "the fault of $page is told otherwise"
+
+# FLOW_MODs of the first evening in words, and what the page says of refusals.
+{ printf '\005' && cat examples/first-evening.bin; } | "$programs/flowlist" >"$work/list"
+block $page 'change ' >"$work/told"
+[ -s "$work/told" ] && cmp "$work/told" "$work/list"
+ended $? "$page lists other FLOW_MODs of the first evening"
+# refuses STATUS WORDS SWITCH EDIT: bin/flowmods says this of tonight.txt with an edit, and so the page says.
+refuses() {
+    mkdir -p "$work/edited"
+    sed "$4" "$work/tonight.txt" >"$work/edited/tonight.txt"
+    said=$(cd "$work/edited" && "$programs/../../bin/flowmods" "$3" tonight.txt 2>&1 >"$work/printed")
+    [ $? -eq "$1" ] && [ "$said" = "$2" ] && grep -q -F "| \`$2\` | $1 |" $page
+    ended $? "bin/flowmods $3 of tonight.txt with the edit $4 says: $said; or $page tells it otherwise"
+}
+refuses 3 'bin/flowmods: there is no switch 16: switches are 0 to 15 (12)' 16 ''
+refuses 3 'tonight.txt:4: expected switch, found swich; did you mean switch?' 2 '4s/switch/swich/'
+refuses 3 'tonight.txt:6: refused, a length above 32, or bits of the address past its length' 2 \
+    's/10\.0\.0\.0\/8 port 2/10.0.0.1\/8 port 2/'
+refuses 4 'tonight.txt:19: the script stops here, since this is no record of a script' 2 '$a\
+plan switch 6 cause 1
+'
 
 # The commands of both pages end well, but for those that show a FILE. Files without a folder stand in this run's own.
 for shown in README.md $page; do

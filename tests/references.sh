@@ -1,6 +1,6 @@
 #!/bin/sh
-# The cases of the test programs, and the lines they must print, are what tests/trials.py, drills.py and duties.py work
-# out from document 01 alone. The compiled drive is then run on many more calls than its file has.
+# The cases of the test programs, and the lines they must print, are what tests/trials.py, drills.py, flowmods.py and
+# duties.py work out from the papers alone. The compiled drive is then run on many more calls than its file has.
 set -u
 export PYTHONDONTWRITEBYTECODE=1
 if ! command -v python3 >/dev/null; then
@@ -21,13 +21,14 @@ ended() {
 for part in stdin stdout; do
     python3 tests/trials.py "$part" | cmp -s - "crates/trials/$part"
     ended $? "crates/trials/$part is not what tests/trials.py works out"
-    { python3 tests/drills.py "$part" && python3 tests/duties.py "$part"; } | cmp -s - "crates/drive/$part"
-    ended $? "crates/drive/$part is not what tests/drills.py and tests/duties.py work out"
+    { python3 tests/drills.py "$part" && python3 tests/flowmods.py "$part" && python3 tests/duties.py "$part"; } |
+        cmp -s - "crates/drive/$part"
+    ended $? "crates/drive/$part is not what tests/drills.py, flowmods.py and duties.py work out"
 done
 
 work=${TMPDIR:-/tmp}/references.$$
 mkdir "$work" || exit 1
-for calls in drills duties; do
+for calls in drills flowmods duties; do
     python3 "tests/$calls.py" stdout long >"$work/expected"
     python3 "tests/$calls.py" stdin long | target/bin/drive >"$work/printed"
     [ -s "$work/expected" ] && cmp "$work/expected" "$work/printed"

@@ -22,13 +22,14 @@ LONGEST_SCRIPT = 8192
 
 
 class Rehearsal:
-    """The ends of one domain, and the places. Each record's call gives its answer and figure."""
+    """The ends of one domain, the places, and what was applied (switch, number, rule). Each record's call gives its
+    answer and figure."""
 
     def __init__(self, n, book):
         self.n = n
         self.controllers = [Controller(c, n, book) for c in range(n)]
         self.switches = [Switch(s, n) for s in range(16)]
-        self.places = [None] * 64
+        self.places, self.applied = [None] * 64, []
 
     def known(self, switch, controller=0):
         return switch <= 15 and controller < self.n
@@ -41,7 +42,11 @@ class Rehearsal:
 
     def delivered(self, switch, share):
         end = self.switches[switch]
-        return end.receive(switch_keys(switch, self.n), share), end.last
+        answer = end.receive(switch_keys(switch, self.n), share)
+        if answer == 1:
+            _, _, number, *rule = SHARE.fields(share)
+            self.applied.append((switch, number, tuple(rule)))
+        return answer, end.last
 
     def decide(self, controller, switch, serial, cause):
         if not self.known(switch, controller):
@@ -108,19 +113,20 @@ def begun(s):
     return 0, Rehearsal(s[0], book), script
 
 
-def rehearse(s):
-    """The lines for an input."""
-    answer, rehearsal, script = begun(s)
-    if answer != 0:
-        return ["0 %d 0" % answer]
-    lines = []
+def ended(s):
+    """An input rehearsed to its end: the number that refuses it before its script, or 0; the ends, and the lines."""
+    refused, rehearsal, script = begun(s)
+    lines = ["0 %d 0" % refused] if refused else []
     while script:
         length, answer, figure = rehearsal.record(script)
         lines.append("%d %d %d" % (len(lines) + 1, answer, figure))
-        if length is None:
-            break
-        script = script[length:]
-    return lines
+        script = script[length:] if length else b""
+    return refused, rehearsal, lines
+
+
+def rehearse(s):
+    """The lines for an input."""
+    return ended(s)[2]
 
 
 def text(lines):

@@ -5,7 +5,7 @@
 set -u
 script=statuses.sh
 . tests/counting
-there assemble disassemble explain picture rehearse survey
+there assemble disassemble explain flowlist flowmods picture rehearse survey
 
 # The stand-ins
 
@@ -13,7 +13,8 @@ tree="$work/a tree"
 kit=$work/kit
 mkdir -p "$tree/bin" "$kit" "$work/tools" "$work/temporary" || exit 1
 cp bin/* "$tree/bin"
-for program in assemble survey rehearse explain picture disassemble; do
+programs_here='assemble survey rehearse explain picture disassemble flowmods flowlist'
+for program in $programs_here; do
     echo "$program 30 7"
 done >"$tree/bin/measured.txt"
 cat >"$tree/crates.txt" <<'CRATES'
@@ -28,24 +29,29 @@ rehearse: parts words base
 explain: parts words base
 picture: parts words base
 disassemble: words base
+flowmods: parts words base
+flowlist: parts words base
 CRATES
-for crate in base depth words parts assemble survey rehearse explain picture disassemble other; do
+for crate in base depth words parts $programs_here other; do
     for part in src specs proofs must-fail; do
         mkdir -p "$tree/crates/$crate/$part"
         echo text >"$tree/crates/$crate/$part/file"
     done
     echo text >"$tree/crates/$crate/stdin"
 done
-for tool in awk cat cp date dirname find grep mkdir mktemp mv readlink rm sed sh sleep tail touch tr wc; do
+for tool in awk cat cp date dd dirname find grep mkdir mktemp mv od readlink rm sed sh sleep tail touch tr wc; do
     ln -s "$(command -v $tool)" "$work/tools/$tool"
 done
 export TMPDIR="$work/temporary"
 
 # A program does what its input asks of it. In this file's texts a `line A F` is a record of the script with this answer
-# and figure.
+# and figure. The programs of FLOW_MODs tell the switch, which is a byte before the text, and then the changes applied.
 cat >"$kit/program" <<'PROGRAM'
 #!/bin/sh
 name=${0##*/}
+case $name in
+flowmods | flowlist) switch=$(dd bs=1 count=1 2>/dev/null | od -An -tu1 | tr -d ' ') ;;
+esac
 input=$(cat && echo .)
 input=${input%.}
 case $input in
@@ -77,6 +83,12 @@ explain,*)
     printf '%s\n' "$input" | awk '/^line/ { print ++k, $2, $3 "  in words" } END { print "1 2 3 verdict" }' || full
     ;;
 picture,*) echo '<svg/>' ;;
+flowmods,*'unlike survey'*) echo 'fault 28' >&2 ;;
+flowlist,*'unlike survey'*) echo 'fault 28' ;;
+flowmods,*)
+    { printf 'switch %s\000' "$switch" && printf '%s\n' "$input" | awk '/^line 1 / { printf "<%s>", $3 }'; } || full
+    ;;
+flowlist,*) printf '%s\n' "$input" | awk -v s="$switch" '/^line 1 / { print "change " $3 " of switch " s }' || full ;;
 disassemble,*long*) echo 'expected at most 16384 bytes' >&2 ;;
 disassemble,*) echo 'controllers 4' ;;
 esac
@@ -121,7 +133,6 @@ for crate in $crates "$@"; do
 done
 RT
 chmod +x "$kit/program" "$kit/rt"
-programs_here='assemble survey rehearse explain picture disassemble'
 
 # built_all: every program of the tree is built.
 built_all() {
@@ -179,10 +190,14 @@ printf '1 0 2\n2 16 1\n3 26 0\n4 1 1\n' >good.out
 sed 's/^line [0-9]*: //' explained.out >explained-bytes.out
 { cat good.txt && printf '\001'; } >good.bin
 printf 'controllers 4\n\nfaulty\n' >faulty.txt
+fault='faulty.txt:3: expected plan, found plam; did you mean plan?'
 printf 'long\001' >long.bin
 printf 'controllers 4\n\nplan\nplan\nrefused by 15 at 2\nend\n' >refused.txt
 { cat refused.txt && printf '\001'; } >refused.bin
 printf 'controllers 4\nrefused by 28 at 0\n' >limits.txt
+printf 'controllers 17\nrefused by 20 at 0\n' >seventeen.txt
+printf 'controllers 4\nend\nunlike survey\n' >strange.txt
+printf 'controllers 4\nend\nline 0 2\n' >none.txt
 printf 'controllers 4\nend\nline 0 2\n\nline 31 0\n' >stops.txt
 printf 'controllers 4\nend\nline 0 2\nline 30 0\n' >cut.txt
 { cat stops.txt && printf '\001'; } >stops.bin
@@ -194,6 +209,14 @@ echo '0 28 0' >limits.out
 echo 'controllers 4' >told.out
 echo '<svg/>' >picture.out
 echo '1 2 3 verdict' >verdict.out
+# What the commands print of switch 5 where change 1 is applied to it, and where none is.
+printf 'switch 5\000<1>' >mods.out
+echo 'change 1 of switch 5' >list.out
+printf 'switch 5\000' >no-mods.out
+printf 'controllers 4\nend\nline 1 3\nline 0 3\nline 1 8\n\nline 31 0\n' >late.txt
+{ cat late.txt && printf '\001'; } >late.bin
+printf 'switch 5\000<3><8>' >late.out
+printf 'change 3 of switch 5\nchange 8 of switch 5\n' >late-list.out
 cp good.txt ./-good.txt
 mkdir folder
 
@@ -228,7 +251,7 @@ done_well() {
     tried "$shell, assemble" 0 good.txt '' by assemble good.txt
     tried "$shell, assemble standard input" 0 good.txt '' by assemble -- - <good.txt
     tried "$shell, disassemble" 0 told.out '' by disassemble -- good.bin
-    for command in rehearse assemble disassemble; do
+    for command in rehearse assemble disassemble flowmods; do
         for option in -h --help; do
             by $command $option 2>errors | grep -q "^usage: bin/$command .*FILE\$" && [ ! -s errors ]
             ended $? "$shell, $command $option does not help"
@@ -240,10 +263,68 @@ done_well() {
     done
 }
 
+flow_mods() {
+    tried "$shell, flowmods" 0 mods.out '' by flowmods 5 good.txt
+    tried "$shell, flowmods of bytes" 0 mods.out '' by flowmods 5 good.bin
+    tried "$shell, flowmods of standard input" 0 mods.out '' by flowmods 5 - <good.txt
+    tried "$shell, flowmods of bytes from standard input" 0 mods.out '' by flowmods 5 - <good.bin
+    tried "$shell, flowmods of a file with a strange name" 0 mods.out '' by flowmods -- 5 -good.txt
+    tried "$shell, flowmods, and no change is applied" 0 no-mods.out '' by flowmods 5 none.txt
+    tried "$shell, flowmods --list" 0 list.out '' by flowmods --list 5 good.txt
+    tried "$shell, flowmods --list of bytes" 0 list.out '' by flowmods 5 --list good.bin
+    tried "$shell, flowmods --list of standard input, the option last" 0 list.out '' \
+        by flowmods 5 - --list -- <good.txt
+    tried "$shell, flowmods --list, and no change is applied" 0 /dev/null '' by flowmods --list 5 none.txt
+    # The byte of each switch reaches the program.
+    for switch in 0 7 8 10 15; do
+        echo "change 1 of switch $switch" >switch.out
+        tried "$shell, flowmods, switch $switch" 0 switch.out '' by flowmods --list $switch good.txt
+    done
+    # What is no number of a switch is told before anything of FILE's is looked at.
+    for switch in 16 256 99999999999999999999; do
+        tried "$shell, flowmods, switch $switch" 3 /dev/null \
+            "bin/flowmods: there is no switch $switch: switches are 0 to 15 (12)" by flowmods $switch refused.txt
+    done
+    tried "$shell, flowmods --list, switch 16" 3 /dev/null '*there is no switch 16: *' by flowmods --list 16 good.bin
+    for switch in '' 5x -5 05 ' 5'; do
+        tried "$shell, flowmods, switch '$switch'" 2 /dev/null '*SWITCH is a number*; usage: *' \
+            by flowmods -- "$switch" good.txt
+    done
+    tried "$shell, flowmods, file and switch exchanged" 2 /dev/null '*SWITCH is a number*' by flowmods good.txt 5
+    tried "$shell, flowmods, no words" 2 /dev/null '*usage: *' by flowmods
+    tried "$shell, flowmods, a word too many" 2 /dev/null '*usage: *' by flowmods 5 good.txt -- more
+    # Refused before the script.
+    tried "$shell, flowmods of a faulty text from standard input" 3 /dev/null 'standard input:3: expected plan, *' \
+        by flowmods 5 - <faulty.txt
+    for list in '' --list; do
+        tried "$shell, flowmods $list, a faulty text" 3 /dev/null "$fault" by flowmods $list 5 faulty.txt
+        tried "$shell, flowmods $list, a refused playbook" 3 /dev/null 'refused.txt:4: the words of survey' \
+            by flowmods $list 5 refused.txt
+        tried "$shell, flowmods $list, a refused playbook in bytes" 3 /dev/null \
+            'refused.bin: record 2 of the playbook: the words of survey' by flowmods $list 5 refused.bin
+        tried "$shell, flowmods $list, refused, and no record's fault" 3 /dev/null 'limits.txt: the words of survey' \
+            by flowmods $list 5 limits.txt
+        tried "$shell, flowmods $list, too many controllers" 3 /dev/null 'seventeen.txt:1: the words of survey' \
+            by flowmods $list 5 seventeen.txt
+        tried "$shell, flowmods $list, a fault that survey does not find" 3 /dev/null 'strange.txt: refused (28)' \
+            by flowmods $list 5 strange.txt
+    done
+    # Scripts that stop.
+    stops='the script stops here, since this is no record of a script'
+    tried "$shell, flowmods, a script that stops" 4 late.out "late.txt:7: $stops" by flowmods 5 late.txt
+    tried "$shell, flowmods, a script in bytes that stops" 4 late.out "late.bin: record 4: $stops" \
+        by flowmods 5 late.bin
+    tried "$shell, flowmods --list, a script that stops" 4 late-list.out "late.txt:7: $stops" \
+        by flowmods --list 5 late.txt
+    tried "$shell, flowmods, a script that is cut" 4 no-mods.out \
+        'cut.txt:4: the script stops here, since the input ends within this record' by flowmods 5 cut.txt
+}
+
 bad_usage() {
     tried "$shell, --picture to standard output" 2 /dev/null '*a picture goes to a file*' \
         by rehearse --picture - good.txt
-    for command in rehearse assemble disassemble; do
+    # shellcheck disable=SC2086
+    for command in rehearse assemble disassemble 'flowmods 5'; do
         tried "$shell, $command without a file" 2 /dev/null '*usage: *' by $command
         tried "$shell, $command -- without a file" 2 /dev/null '*usage: *' by $command --
         tried "$shell, $command with a file and options behind --" 2 /dev/null '*usage: *' by $command -- good.txt -h
@@ -271,7 +352,6 @@ bad_usage() {
 }
 
 faulty() {
-    fault='faulty.txt:3: expected plan, found plam; did you mean plan?'
     for option in --explain --check --expand --strict; do
         tried "$shell, rehearse $option, a faulty text" 3 /dev/null "$fault" by rehearse $option faulty.txt
     done
@@ -325,16 +405,20 @@ refused() {
 unwritten() {
     for command in 'rehearse good.txt' 'rehearse good.bin' 'rehearse --explain good.txt' 'rehearse --explain good.bin' \
         'rehearse --check good.txt' 'rehearse --expand good.txt' 'rehearse refused.txt' 'rehearse --help' \
-        'assemble good.txt' 'assemble -h' 'disassemble good.bin' 'disassemble --help'; do
+        'assemble good.txt' 'assemble -h' 'disassemble good.bin' 'disassemble --help' 'flowmods 5 good.txt' \
+        'flowmods --list 5 good.txt' 'flowmods --help'; do
         # shellcheck disable=SC2086
         tried "$shell, $command, standard output full" 5 /dev/null '*not all of the output could be written' \
             to_full by $command
         # shellcheck disable=SC2086
         tried "$shell, $command, standard output closed" 5 /dev/null '*standard output is closed' to_closed by $command
     done
-    awk 'BEGIN { print "controllers 4\nend"; for (i = 0; i < 20000; i++) print "line 0 1" }' >many.txt
-    tried "$shell, rehearse, a reader that is gone" 5 /dev/null '*not all of the output could be written' \
-        to_reader by rehearse many.txt
+    awk 'BEGIN { print "controllers 4\nend"; for (i = 0; i < 8000; i++) print "line 1 1" }' >many.txt
+    for command in rehearse 'flowmods --list 5'; do
+        # shellcheck disable=SC2086
+        tried "$shell, $command, a reader that is gone" 5 /dev/null '*not all of the output could be written' \
+            to_reader by $command many.txt
+    done
     for name in assemble survey rehearse explain picture; do
         printf 'controllers 4\n%s is full\nend\n' $name >full.txt
         rm -f none.svg
@@ -343,6 +427,13 @@ unwritten() {
         [ $status -eq 5 ] && [ ! -e none.svg ] &&
             grep -q "target/bin/$name: not all of the output could be written\$" errors
         ended $? "$shell, $name could not write all: status $status, and it says: $(cat errors)"
+    done
+    for name in assemble survey rehearse flowmods flowlist; do
+        printf 'controllers 4\n%s is full\nend\nline 1 1\n' $name >full.txt
+        list=
+        [ $name != flowlist ] || list=--list
+        tried "$shell, flowmods, $name could not write all" 5 /dev/null \
+            "bin/flowmods: target/bin/$name: not all of the output could be written" by flowmods $list 5 full.txt
     done
     printf 'disassemble is full\001' >full.bin
     tried "$shell, disassemble could not write all" 5 /dev/null '*disassemble: not all of *' by disassemble full.bin
@@ -391,6 +482,14 @@ crashed() {
             grep -q "target/bin/$name was ended by signal 11; it needs 7 MB of stack (ulimit -s)\$" errors
         ended $? "$shell, $name crashes: status $status, and it says: $(cat errors)"
     done
+    for name in assemble survey rehearse flowmods flowlist; do
+        printf 'controllers 4\n%s crashes\nend\nline 1 1\n' $name >crash.txt
+        list=
+        [ $name != flowlist ] || list=--list
+        tried "$shell, flowmods, $name crashes" 6 /dev/null \
+            "bin/flowmods: target/bin/$name was ended by signal 11; it needs 7 MB of stack (ulimit -s)" \
+            by flowmods $list 5 crash.txt
+    done
     printf 'assemble crashes' >crash.txt
     tried "$shell, assemble crashes" 6 /dev/null '*assemble was ended by signal 11; it needs 7 MB of stack *' \
         by assemble crash.txt
@@ -400,7 +499,11 @@ crashed() {
     printf 'assemble is killed' >crash.txt
     tried "$shell, assemble is killed" 6 /dev/null '*assemble was ended by signal 9' by assemble crash.txt
     printf 'controllers 4\nmute\n' >crash.txt
-    tried "$shell, survey prints nothing" 6 /dev/null '*survey printed no two numbers' by rehearse crash.txt
+    for command in rehearse 'flowmods 5'; do
+        # shellcheck disable=SC2086
+        tried "$shell, $command, survey prints nothing" 6 /dev/null '*survey printed no two numbers' \
+            by $command crash.txt
+    done
     printf 'assemble fails' >crash.txt
     tried "$shell, assemble fails" 6 /dev/null '*assemble ended with status 3' by assemble crash.txt
 }
@@ -412,15 +515,23 @@ untimed() {
 
 building() {
     built_none
-    for command in rehearse assemble disassemble; do
+    # shellcheck disable=SC2086
+    for command in rehearse assemble disassemble 'flowmods 5'; do
         tried "$shell, $command without rt" 2 /dev/null '*no rt command*' without_rt $command good.txt
     done
+    tried "$shell, flowmods of no switch, without rt" 3 /dev/null '*no switch 16*' without_rt flowmods 16 good.txt
     built_none
     tried "$shell, a faulty text, nothing built" 3 /dev/null '*faulty.txt:3: *' by rehearse --explain faulty.txt
     asked 'a faulty text' 'assemble survey'
     tried "$shell, a refused playbook, nothing else built" 4 refused.out '*refused.txt:4: the words of survey*' \
         by rehearse --explain --picture none.svg refused.txt
     asked 'a refused playbook' 'assemble survey'
+    tried "$shell, flowmods, nothing else built" 0 mods.out '*once: 2 crates, *' by flowmods 5 good.txt
+    asked 'flowmods' 'assemble survey' 'rehearse flowmods'
+    ! grep -v '^bin/flowmods: .* proved (3 s), [12] of 2\|^bin/flowmods: proves and builds ' errors
+    ended $? "$shell, flowmods says more than how it is built: $(cat errors)"
+    tried "$shell, flowmods --list, nothing else built" 0 list.out '*once: 1 crate, *' by flowmods --list 5 good.bin
+    asked 'flowmods --list' 'assemble survey' 'rehearse flowmods' flowlist
     built_none
     tried "$shell, bytes, nothing built" 0 good.out '*' by rehearse good.bin
     asked 'bytes' survey rehearse
@@ -471,7 +582,8 @@ rebuilding() {
 }
 
 unbuilt() {
-    for command in rehearse assemble disassemble; do
+    # shellcheck disable=SC2086
+    for command in rehearse assemble disassemble 'flowmods 5'; do
         built_none
         echo fails >"$kit/mood"
         tried "$shell, $command, a proof that fails" 1 /dev/null '*a proof fails*could not be built: *' \
@@ -498,7 +610,7 @@ unbuilt() {
     done
 }
 
-# A terminal gets one line, which is written over.
+# A terminal gets one line, which is written over; and no FLOW_MODs in bytes.
 on_terminal() {
     if ! script -qec true /dev/null >/dev/null 2>&1; then
         echo "tests/$script: no command script, so this was not run: a build on a terminal"
@@ -509,6 +621,15 @@ on_terminal() {
     [ "$(tr '\r' '\n' <errors | grep -c ' proved (3 s), [123] of 3')" -eq 3 ] &&
         [ "$(grep -c ' proved (' errors)" -eq 1 ] && cmp good.txt printed
     ended $? "$shell, on a terminal a build is told otherwise: $(cat errors)"
+    built_all
+    script -qec "$shell '$tree/bin/flowmods' 5 good.txt" /dev/null </dev/null >printed
+    status=$?
+    [ $status -eq 2 ] && grep -q 'standard output is a terminal; use --list' printed && ! grep -q 'switch 5' printed
+    ended $? "$shell, flowmods on a terminal: status $status, and it prints: $(cat printed)"
+    script -qec "$shell '$tree/bin/flowmods' --list 5 good.txt" /dev/null </dev/null >printed
+    status=$?
+    [ $status -eq 0 ] && tr -d '\r' <printed | cmp - list.out
+    ended $? "$shell, flowmods --list on a terminal: status $status, and it prints: $(cat printed)"
 }
 
 # A run that is ended while rt runs takes its folder and rt with it.
@@ -554,6 +675,7 @@ done
 for shell in $shells; do
     built_all
     done_well
+    flow_mods
     bad_usage
     faulty
     refused
@@ -587,13 +709,17 @@ tried 'the real programs with too little stack' 6 /dev/null \
     with_stack 512 bin/rehearse --picture "$work/none.svg" examples/second-evening.txt
 [ ! -e "$work/none.svg" ]
 ended $? 'a crash of a real program left a picture'
-for name in assemble disassemble explain picture rehearse survey; do
+{ printf '\005' && cat examples/second-evening.bin; } >"$work/asked"
+for name in assemble disassemble explain flowlist flowmods picture rehearse survey; do
     stack=$(awk -v name=$name '$1 == name { print $3 }' bin/measured.txt)
     [ -n "$stack" ]
     ended $? "bin/measured.txt does not tell how much stack $name needs"
     input=examples/second-evening.bin
-    [ $name != assemble ] || input=examples/second-evening.txt
-    with_stack $((${stack:-1} * 1024)) "$programs/$name" <$input >"$work/printed" 2>/dev/null
+    case $name in
+    assemble) input=examples/second-evening.txt ;;
+    flowlist | flowmods) input=$work/asked ;;
+    esac
+    with_stack $((${stack:-1} * 1024)) "$programs/$name" <"$input" >"$work/printed" 2>/dev/null
     status=$?
     [ $status -eq 0 ] && [ -s "$work/printed" ]
     ended $? "$name with $stack MB of stack: status $status"

@@ -25,6 +25,7 @@ lines are not counted. Files of src/ stand for the structs and enums in them tha
 """
 THEOREM = "crates/domain/proofs/Theorem.antt"
 CALLS = ["answer", "lists", "tag", "flow", "message", "playbook", "switch", "controller"]
+FED = ["openflow", "feed"]
 FUNCTION = r'(?ms)^[ \t]*pub (?:extern "C" )?fn (.*?)\{\s*$'
 TYPE = r"(?ms)^(?:pub(?:\(crate\))? )?(?:struct|enum) (\w+) \{.*?^\}"
 LAW = r"(?ms)^( *)(?:pub )?%s :(.*?)(?=^\1\S|\Z)"
@@ -177,13 +178,14 @@ class Base:
 
     def page(self):
         claim = self.named["crates/domain/specs/Claim.antt", "Demand3"]
-        others = {crate_of(path) for path in self.code} - {*CALLS, "rehearsal", "notation"}
+        others = {crate_of(path) for path in self.code} - {*CALLS, *FED, "rehearsal", "notation"}
         seen = set()
         yield HEAD
         for title, roots in (
                 ("What the one claim, `Demand3`, rests on", self.law(THEOREM, "demand3")),
                 ("What the contracts of the ends' calls add", self.contracts(CALLS)),
                 ("What the contracts of the rehearsal add", self.contracts(["rehearsal"])),
+                ("What the contracts of the FLOW_MODs add", self.contracts(FED)),
                 ("What the edges add", self.cited(edges=True)),
                 ("What the contracts of the notation add", self.contracts(["notation"])),
                 ("What other laws that CLAIMS.md cites add", self.cited(edges=False)),

@@ -8,18 +8,14 @@ use crate::sides::{Place, Side};
 use reference::drive;
 use reference::tag;
 
-/// A frame before anything is written into it.
-const FRAME: [u8; drive::FRAME] = [drive::UNWRITTEN; drive::FRAME];
-
 /// Stops the program where two sides differ.
 pub fn check(with: Option<&Openssl>, without: Option<&Openssl>) {
     hashes(with.into_iter().chain(without));
     frames();
+    flow_mods();
     rehearsals();
-    println!(
-        "The sides agree: hashes and HMACs of 0 to 300 bytes, written frames, rehearsals; the sums of every row below"
-    );
-    println!("are compared in each round.");
+    println!("The sides agree: hashes and HMACs of 0 to 300 bytes, written frames, FLOW_MODs, rehearsals; the sums of");
+    println!("every row below are compared in each round.");
     println!();
 }
 
@@ -38,9 +34,9 @@ fn hashes<'a>(libraries: impl Iterator<Item = &'a Openssl>) {
     }
 }
 
-/// What two sides leave in a frame, and their sums.
-fn left_by(write: impl Fn(&dyn Side, &mut [u8]) -> u64) {
-    let (mut a, mut b) = (FRAME, FRAME);
+/// What two sides leave in a frame of so many bytes, and their sums.
+fn left_by(room: usize, write: impl Fn(&dyn Side, &mut [u8]) -> u64) {
+    let (mut a, mut b) = (vec![drive::UNWRITTEN; room], vec![drive::UNWRITTEN; room]);
     let sums = (write(&Rattle, &mut a), write(&Rust, &mut b));
     assert_eq!(sums.0, sums.1, "the answers to writing");
     assert_eq!(a, b, "a written frame");
@@ -53,9 +49,21 @@ fn frames() {
     for at in [0, 7, 33, 34, 35, 41, 64, usize::MAX] {
         for receiver in [0, 3, 4, 15, 16] {
             let place = Place { receiver, at };
-            left_by(|side, frame| side.written(&switch, true, place, frame, 3));
-            left_by(|side, frame| side.written(&switch, false, place, frame, 3));
-            left_by(|side, frame| side.share_written(&controller, trigger, 4, place, frame, 3));
+            left_by(drive::FRAME, |side, frame| side.written(&switch, true, place, frame, 3));
+            left_by(drive::FRAME, |side, frame| side.written(&switch, false, place, frame, 3));
+            left_by(drive::FRAME, |side, frame| side.share_written(&controller, trigger, 4, place, frame, 3));
+        }
+    }
+}
+
+/// Rules of every length, some malformed, at offsets where all, some or none of the FLOW_MODs fit.
+fn flow_mods() {
+    for length in 0..=33 {
+        for prefix in [0, 0x0A80_0000, u32::MAX] {
+            for (port, at) in [(0, 0), (0, 64), (0, 65), (1, 7), (258, 32), (65_535, 40), (65_535, usize::MAX)] {
+                let rule = inputs::route(prefix, length, port);
+                left_by(inputs::FLOW_MOD_FRAME, |side, frame| side.flow_mods(&rule, 0x0100_0001, frame, at, 3));
+            }
         }
     }
 }

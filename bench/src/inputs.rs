@@ -11,6 +11,9 @@ use reference::switch::quorum;
 pub const SWITCH: u8 = 5;
 pub const CONTROLLER: u8 = 0;
 
+/// How many bytes a frame for a FLOW_MOD has here.
+pub const FLOW_MOD_FRAME: usize = 128;
+
 /// How many changes a plan has here.
 pub const PLAN: usize = 8;
 
@@ -56,6 +59,11 @@ fn keeping_rule(entries: usize, turn: usize) -> Rule {
     }
     let (prefix, length) = entry(turn * 7 % entries);
     Rule { prefix, length, action: Action::Set((turn % 60_000) as u16 + 1) }
+}
+
+/// A rule of a port, or a removal where that is 0.
+pub fn route(prefix: u32, length: u8, port: u16) -> Rule {
+    Rule { prefix, length, action: Action::of_port(port) }
 }
 
 /// A switch of n controllers whose table has so many entries, each set with a quorum.

@@ -1,4 +1,4 @@
-//! Times the proved library beside the Rust code written from document 01 and, for tags, OpenSSL, and prints tables.
+//! Times the proved library beside the Rust code written from the documents and, for tags, OpenSSL, and prints tables.
 //! `bench/run` builds what this links and starts it.
 
 mod agreement;

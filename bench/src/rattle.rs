@@ -1,6 +1,7 @@
 //! The library's side: the functions of `crates/timed`, declared as its source has them.
 
 use crate::sides::{AtController, AtSwitch, Place, Side, Trigger};
+use reference::flow::Rule;
 
 // A slice is a pointer and a length. No function requires anything of its arguments.
 extern "C" {
@@ -46,6 +47,16 @@ extern "C" {
         filling_length: usize,
         event: bool,
         controller: u8,
+        frame: *mut u8,
+        frame_length: usize,
+        at: usize,
+        times: u32,
+    ) -> u64;
+    fn timed_flow_mods(
+        prefix: u32,
+        step: u32,
+        length: u8,
+        port: u16,
         frame: *mut u8,
         frame_length: usize,
         at: usize,
@@ -168,6 +179,11 @@ impl Side for Rattle {
                 times,
             )
         }
+    }
+
+    fn flow_mods(&self, rule: &Rule, step: u32, frame: &mut [u8], at: usize, times: u32) -> u64 {
+        let Rule { prefix, length, action } = *rule;
+        unsafe { timed_flow_mods(prefix, step, length, action.port(), frame.as_mut_ptr(), frame.len(), at, times) }
     }
 
     fn decided(&self, controller: &AtController, acknowledgements: &[u8], trigger: Trigger, times: u32) -> u64 {

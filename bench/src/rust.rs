@@ -2,12 +2,14 @@
 
 use crate::sides::{mix, AtController, AtSwitch, Place, Side, Trigger};
 use reference::controller::Controller;
+use reference::flow::Rule;
 use reference::message::{ACKNOWLEDGEMENT_LENGTH, SHARE_LENGTH};
+use reference::openflow::write_flow_mod;
 use reference::switch::{Looked, Switch};
 use reference::{playbook, rehearsal, tag};
 use std::hint::black_box;
 
-/// The code written from document 01 alone.
+/// The code written from the documents alone.
 pub struct Rust;
 
 /// A number of the first bytes of a hash.
@@ -115,6 +117,15 @@ impl Side for Rust {
                 state.write_acknowledgement(&switch.keys, place.receiver, frame, place.at)
             };
             mix(sum, answer.into())
+        })
+    }
+
+    fn flow_mods(&self, rule: &Rule, step: u32, frame: &mut [u8], at: usize, times: u32) -> u64 {
+        let mut rule = *rule;
+        (0..times).fold(0, |sum, number| {
+            let (answer, length) = write_flow_mod(number, &rule, frame, at);
+            rule.prefix = rule.prefix.wrapping_add(step);
+            mix(mix(sum, answer.into()), length as u32)
         })
     }
 

@@ -1,5 +1,7 @@
 //! What is timed, the same on every side: a call made over and over, whose answers are mixed into a sum.
 
+use reference::flow::Rule;
+
 /// A switch that has received the shares of `filling` since it was set up, one after another.
 pub struct AtSwitch {
     pub id: u8,
@@ -49,6 +51,10 @@ pub trait Side {
 
     /// Events, or acknowledgements, written into a frame.
     fn written(&self, switch: &AtSwitch, event: bool, place: Place, frame: &mut [u8], times: u32) -> u64;
+
+    /// FLOW_MODs written at an offset of a frame with the numbers from 0 on, of a rule and of those whose prefixes are a
+    /// step apart.
+    fn flow_mods(&self, rule: &Rule, step: u32, frame: &mut [u8], at: usize, times: u32) -> u64;
 
     /// Decisions on a trigger with the serials from 1 on, after acknowledgements.
     fn decided(&self, controller: &AtController, acknowledgements: &[u8], trigger: Trigger, times: u32) -> u64;

@@ -1,6 +1,6 @@
 //! The tables, in Markdown.
 
-use crate::inputs;
+use crate::inputs::{self, FLOW_MOD_FRAME};
 use crate::measure::{compare, Rounds, Run, Taken};
 use crate::openssl::Openssl;
 use crate::rattle::Rattle;
@@ -160,9 +160,24 @@ fn at_a_switch(rounds: Rounds) {
         side.written(&switch, false, PLACE, &mut [0; FRAME], times)
     });
     row("an event written", rounds, 1, &|side, times| side.written(&switch, true, PLACE, &mut [0; FRAME], times));
+    flow_mods(rounds);
     let full = inputs::switch(4, 64);
     row("lookup at a switch, 64 entries", rounds, 1, &|side, times| side.looked_up(&full, STEP, times));
     row("lookup in its table (no question 20)", rounds, 1, &|side, times| side.forwarded(&full, STEP, times));
+}
+
+/// FLOW_MODs of rules of each form, with prefixes that differ from turn to turn.
+fn flow_mods(rounds: Rounds) {
+    for (name, length, port) in [
+        ("a FLOW_MOD written, a set of length 16", 16, 3),
+        ("the same, a removal", 16, 0),
+        ("the same, a set of length 32", 32, 3),
+        ("the same, a set of length 0", 0, 3),
+    ] {
+        let rule = inputs::route(0, length, port);
+        let step = 1u32.checked_shl(32 - u32::from(length)).unwrap_or(0);
+        row(name, rounds, 1, &|side, times| side.flow_mods(&rule, step, &mut [0; FLOW_MOD_FRAME], PLACE.at, times));
+    }
 }
 
 fn at_a_controller(rounds: Rounds) {

@@ -1,13 +1,15 @@
 //! The steps of a script, each a call or a few that belong together: messages with good tags from states as they are,
 //! damage, decisions, writing into frames, lookups, odd key stores, odd setups, playbooks, and calls that are none.
 
-use crate::body::{frame, kept, rule, tag_again, whole_frame, Body, RULE};
+use crate::body::{frame, kept, rule, rule_body, tag_again, whole_frame, Body, RULE};
 use crate::books::{at_a_limit, encoded, faulty, ill_formed, pair, Record};
 use crate::domain::{Domain, Sent};
+use crate::random::Random;
 use crate::script::Reply;
 use reference::drive::FRAME;
 use reference::flow::{Action, Rule};
 use reference::message::{ACKNOWLEDGEMENT_LENGTH as ACKNOWLEDGEMENT, EVENT_LENGTH as EVENT, SHARE_LENGTH as SHARE};
+use reference::openflow::flow_mod_length;
 use reference::tag::TAG_LENGTH as TAG;
 
 const TOP: u32 = u32::MAX;
@@ -471,6 +473,21 @@ pub fn full_undone(d: &mut Domain) {
 
 // Frames, lookups, stores, setups
 
+/// An offset for a message of a size in a frame of so many bytes: the last that fits, those beside it, and far ones.
+fn some_offset(random: &mut Random, room: u64, size: u64) -> u64 {
+    match random.below(10) {
+        0 => room,
+        1 => room + 1,
+        2 => random.pick(&[FRAME as u64, FRAME as u64 + 1, 1 << 31, 1 << 32, (1 << 32) - size, 1 << 63]),
+        3 => random.pick(&[u64::MAX, u64::MAX - 1, u64::MAX - size, u64::MAX - size + 1, u64::MAX - size + 2]),
+        4 => random.next(),
+        5 => 0,
+        6 => (room + 1).saturating_sub(size),
+        7 => room.saturating_sub(size + 1),
+        _ => room.saturating_sub(size),
+    }
+}
+
 /// Any of the three writes, at offsets and with frames around the edges.
 pub fn odd_frame(d: &mut Domain) {
     let (letter, size) = d.random.pick(&[(b'E', EVENT), (b'A', ACKNOWLEDGEMENT), (b'w', SHARE)]);
@@ -482,19 +499,7 @@ pub fn odd_frame(d: &mut Domain) {
         1 => size,
         _ => d.random.below(FRAME + 1),
     };
-    let room = length.min(FRAME) as u64;
-    let size = size as u64;
-    let offset = match d.random.below(10) {
-        0 => room,
-        1 => room + 1,
-        2 => d.random.pick(&[FRAME as u64, FRAME as u64 + 1, 1 << 31, 1 << 32, (1 << 32) - size, 1 << 63]),
-        3 => d.random.pick(&[u64::MAX, u64::MAX - 1, u64::MAX - size, u64::MAX - size + 1, u64::MAX - size + 2]),
-        4 => d.random.next(),
-        5 => 0,
-        6 => (room + 1).saturating_sub(size),
-        7 => room.saturating_sub(size + 1),
-        _ => room.saturating_sub(size),
-    };
+    let offset = some_offset(&mut d.random, length.min(FRAME) as u64, size as u64);
     let ends = d.n;
     let (end, mut receiver) =
         if letter == b'w' { (d.some_controller(), d.some_switch()) } else { (d.some_switch(), d.some_controller()) };
@@ -508,6 +513,76 @@ pub fn odd_frame(d: &mut Domain) {
         _ => {}
     }
     d.call(letter, end, &body);
+}
+
+/// A rule for a FLOW_MOD: of any length, of the script's own, or malformed.
+fn some_rule(d: &mut Domain) -> Rule {
+    let port = d.random.pick(&[0, 0, 0, 1, 256, 65_280, 65_535]);
+    match d.random.below(12) {
+        0 => ill_formed(&mut d.random),
+        1 => Rule { action: Action::Set(0), ..d.some_rule() },
+        2..=4 => d.some_rule(),
+        5 | 6 => rule(0, 0, port),
+        _ => {
+            let length = d.random.between(0, 32) as u8;
+            rule(kept(d.random.long(), length), length, port)
+        }
+    }
+}
+
+/// A FLOW_MOD of a rule, at offsets and with frames around the edges.
+pub fn flow_mod(d: &mut Domain) {
+    let rule = some_rule(d);
+    let size = flow_mod_length(&rule);
+    let length = match d.random.below(4) {
+        0 => d.random.pick(&[0, 1, 63, 64, 65, 71, 72, 73, 87, 88, 89, 95, 96, 97, 254, 255]),
+        1 => size,
+        2 => d.random.between(size - 2, 255),
+        _ => d.random.below(256),
+    };
+    let offset = match length.checked_sub(size) {
+        Some(last) if d.random.once_in(2) => d.random.between(0, last) as u64,
+        _ => some_offset(&mut d.random, length as u64, size as u64),
+    };
+    let number = match d.random.below(4) {
+        0 => d.random.pick(&[0, 1, TOP - 1, TOP]),
+        _ => d.random.long(),
+    };
+    let mut body = Body::new().byte(length as u8).wide(offset).long(number).bytes(&rule_body(&mut d.random, rule)).0;
+    let whole = match d.random.below(16) {
+        0 => {
+            body.truncate(d.random.below(body.len()));
+            false
+        }
+        1 => {
+            body.extend(d.random.bytes(3));
+            true
+        }
+        _ => true,
+    };
+    let end = d.random.below(16) as u8;
+    let reply = d.call(b'F', end, &body);
+    if whole {
+        count_flow_mod(d, &rule, length as u64, offset, &reply);
+    }
+}
+
+/// Which edge a FLOW_MOD was at, so that the tables tell whether each was met.
+fn count_flow_mod(d: &mut Domain, rule: &Rule, length: u64, offset: u64, reply: &Reply) {
+    if reply.is("0") {
+        d.script.tally.count("FLOW_MOD of length", &rule.length.to_string());
+    }
+    let size = flow_mod_length(rule) as u64;
+    let name = match offset.checked_add(size) {
+        Some(end) if !rule.well_formed() && end > length => "a malformed rule and no room for it".to_string(),
+        _ if !rule.well_formed() => return,
+        None => "a FLOW_MOD whose end is past the largest number".to_string(),
+        Some(_) if offset > length => "a FLOW_MOD past the frame".to_string(),
+        Some(end) if end == length => format!("a FLOW_MOD of {size} bytes at the end of its frame"),
+        Some(end) if end == length + 1 => format!("a FLOW_MOD of {size} bytes with one too few"),
+        Some(_) => return,
+    };
+    d.script.tally.count(&name, &reply.answer);
 }
 
 /// Addresses within and beside the entries.
@@ -647,7 +722,7 @@ pub fn playbook(d: &mut Domain) {
 pub fn noise(d: &mut Domain) {
     let letter = match d.random.below(4) {
         0 => d.random.byte(),
-        _ => d.random.pick(b"SKMRIEALTXbfskmdwpxZaz"),
+        _ => d.random.pick(b"SKMRIEALTXbfskmdwpxFZaz"),
     };
     let end = if d.random.once_in(6) { d.random.pick(&[16, 17, 128, 255]) } else { d.random.below(16) as u8 };
     let length = d.random.pick(&[0, 1, 2, 3, 5, 9, 14, 31, 32, 33]);

@@ -1,5 +1,6 @@
 //! Bytes put together field by field: bodies of calls, messages with their tags, rules as a share has them.
 
+use crate::random::Random;
 use reference::drive::FRAME;
 use reference::flow::{Action, Rule};
 use reference::message::{Message, SHARE_LENGTH};
@@ -49,6 +50,16 @@ impl Body {
 pub fn rule(prefix: u32, length: u8, port: u16) -> Rule {
     let action = if port == 0 { Action::Remove } else { Action::Set(port) };
     Rule { prefix, length, action }
+}
+
+/// A rule with its action apart from its port, as `drive` takes it: any byte but 0 sets, and a removal's port is not
+/// looked at.
+pub fn rule_body(random: &mut Random, rule: Rule) -> Vec<u8> {
+    let (action, port) = match rule.action {
+        Action::Remove => (0, random.pick(&[0, 0, 1, 65_535])),
+        Action::Set(port) => (random.pick(&[1, 1, 2, 255]), port),
+    };
+    Body::new().long(rule.prefix).byte(rule.length).byte(action).short(port).0
 }
 
 /// The bits of a prefix that its length keeps.

@@ -9,7 +9,7 @@ use crate::tally::Tally;
 use crate::Options;
 use reference::drive::run;
 
-/// The pairs of call and answer that document 01 allows. `field` is the first byte of an altering body. The names
+/// The pairs of call and answer that the documents allow. `field` is the first byte of an altering body. The names
 /// further down are the alterations, with what question 20 says of each.
 pub const PAIRS: &str = "
 switch setup: 0, 20
@@ -19,6 +19,7 @@ raise: 0, 20, 27
 raise in place: 0, 27
 write event: 0, 12, 20, 21, 25, 26
 write acknowledgement: 0, 12, 20, 21, 25
+write FLOW_MOD: 0, 15, 25
 lookup: refused 20, nothing, port
 forward: nothing, port
 alter switch: field 0, field 1, field 2, field 3, field 4, field 5, field 6, no field
@@ -159,13 +160,25 @@ a plan of 33 changes: 36
 512 changes: 0
 65 plans, the last one's trigger met: 35
 33 changes and 65 pairs at once: 36
+FLOW_MOD of length: 0, 1, 2, 3, 4, 5, 6, 7, 8, 9, 10, 11, 12, 13, 14, 15, 16, 17, 18, 19, 20, 21, 22, 23, 24, 25, 26, 27, 28, 29, 30, 31, 32
+a FLOW_MOD of 64 bytes at the end of its frame: 0
+a FLOW_MOD of 72 bytes at the end of its frame: 0
+a FLOW_MOD of 88 bytes at the end of its frame: 0
+a FLOW_MOD of 96 bytes at the end of its frame: 0
+a FLOW_MOD of 64 bytes with one too few: 25
+a FLOW_MOD of 72 bytes with one too few: 25
+a FLOW_MOD of 88 bytes with one too few: 25
+a FLOW_MOD of 96 bytes with one too few: 25
+a FLOW_MOD past the frame: 25
+a FLOW_MOD whose end is past the largest number: 25
+a malformed rule and no room for it: 15
 ";
 
 type Step = fn(&mut Domain);
 
 /// The steps, with how often each profile takes them: shares, decisions, tables, playbooks, altered switches, altered
 /// controllers, frames, and everything with noise.
-const STEPS: [(Step, [usize; 8]); 23] = [
+const STEPS: [(Step, [usize; 8]); 24] = [
     (aim::share, [30, 8, 10, 0, 20, 0, 4, 6]),
     (aim::agreement, [40, 6, 10, 0, 20, 0, 2, 6]),
     (aim::written_share, [4, 30, 0, 4, 0, 12, 8, 6]),
@@ -181,6 +194,7 @@ const STEPS: [(Step, [usize; 8]); 23] = [
     (aim::repeat_without_room, [0, 0, 2, 0, 0, 0, 0, 0]),
     (aim::full_table, [0, 0, 20, 0, 1, 0, 0, 0]),
     (aim::odd_frame, [1, 2, 1, 0, 4, 4, 50, 5]),
+    (aim::flow_mod, [2, 0, 2, 2, 2, 0, 20, 4]),
     (aim::lookup, [3, 0, 20, 0, 10, 0, 2, 4]),
     (aim::quorum, [1, 1, 0, 0, 1, 0, 1, 2]),
     (aim::odd_store, [1, 1, 0, 0, 1, 1, 4, 5]),

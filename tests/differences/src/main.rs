@@ -1,5 +1,5 @@
-//! Differential tests: random and damaged inputs to `drive` and `rehearse`, compared with the Rust side call by call,
-//! and random runs checked against the ideal controller. Every script comes again from its seed and number.
+//! Differential tests: random and damaged inputs to `drive`, `rehearse` and `flowmods`, compared with the Rust side call
+//! by call, and random runs checked against the ideal controller. Every script comes again from its seed and number.
 
 #![forbid(unsafe_code)]
 
@@ -10,6 +10,7 @@ mod books;
 mod calls;
 mod domain;
 mod edit;
+mod flowmods;
 mod program;
 mod random;
 mod rehearsals;
@@ -26,17 +27,18 @@ use tally::Tally;
 const HELP: &str = "\
 differences calls       random scripts of drive, compared line by line
 differences rehearsals  random inputs of rehearse, compared line by line
+differences flowmods    random inputs of flowmods, compared byte by byte
 differences runs        random runs, checked against the ideal controller; their calls are compared too
 differences edit FILE FOLDER
                         makes the edits of FILE in FOLDER; each old text must stand there exactly once
 
-  --drive PATH, --rehearse PATH
+  --drive PATH, --rehearse PATH, --flowmods PATH
                   the program to compare with; without it only the Rust side's own checks are made
   --seed S        the seed (1)
   --scripts N     how many scripts, numbered from 0 (100)
   --only K        script K alone
   --show          prints every call with the lines of both sides
-  --pairs         fails if a pair of call and answer that document 01 allows was not met
+  --pairs         fails if a pair of call and answer that the documents allow was not met
   --threads T     how many scripts at once (2)
 
 Prints how often each pair was met, then what differs; it stops at the first difference. Status 0: nothing differs; 1:
@@ -121,7 +123,7 @@ fn compare(options: &Options, one: Script, pairs: &str, edges: &str) -> bool {
         let missing = [tally.missing(pairs), tally.missing(edges)].concat();
         wrong.extend(missing.into_iter().map(|pair| format!("never met: {pair}")));
     }
-    wrong.extend(tally.unlisted(pairs).into_iter().map(|pair| format!("document 01 doesn't allow: {pair}")));
+    wrong.extend(tally.unlisted(pairs).into_iter().map(|pair| format!("the documents don't allow: {pair}")));
     for line in &wrong {
         println!("{line}");
     }
@@ -140,15 +142,14 @@ fn main() -> ExitCode {
         println!("{HELP}");
         return ExitCode::SUCCESS;
     }
-    let drive =
-        |one: Script, pairs, edges| options(rest, "--drive").map(|options| compare(&options, one, pairs, edges));
+    let with = |program: &str, one: Script, pairs, edges| {
+        options(rest, program).map(|options| compare(&options, one, pairs, edges))
+    };
     let asked = match kind.as_str() {
-        "calls" => drive(calls::script, calls::PAIRS, calls::EDGES),
-        "runs" => drive(runs::script, runs::PAIRS, ""),
-        "rehearsals" => {
-            let options = options(rest, "--rehearse");
-            options.map(|options| compare(&options, rehearsals::script, rehearsals::PAIRS, ""))
-        }
+        "calls" => with("--drive", calls::script, calls::PAIRS, calls::EDGES),
+        "runs" => with("--drive", runs::script, runs::PAIRS, ""),
+        "rehearsals" => with("--rehearse", rehearsals::script, rehearsals::PAIRS, ""),
+        "flowmods" => with("--flowmods", flowmods::script, flowmods::PAIRS, flowmods::EDGES),
         "edit" => edit::edit(rest).map(|()| true),
         _ => Err(format!("{kind} is not known; --help tells")),
     };

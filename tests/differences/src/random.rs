@@ -9,7 +9,7 @@ fn mixed(mut x: u64) -> u64 {
 }
 
 impl Random {
-    /// Scripts of neighbouring numbers, and the three kinds of script, get streams that have nothing to do with each
+    /// Scripts of neighbouring numbers, and the kinds of script, get streams that have nothing to do with each
     /// other.
     pub fn new(seed: u64, kind: u64, script: u64) -> Random {
         Random(mixed(mixed(mixed(seed) ^ kind.wrapping_mul(0xD6E8_FEB8_6659_FD93)) ^ script))

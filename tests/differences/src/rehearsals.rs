@@ -267,7 +267,7 @@ fn filled(rehearsal: &mut Rehearsal, length: usize) {
 }
 
 /// An input: n, a playbook, a script.
-fn input(random: Random, number: u64) -> (Vec<u8>, Tally) {
+pub fn input(random: Random, number: u64) -> (Vec<u8>, Tally) {
     let mut random = random;
     let full = number % 16 == 5;
     let n = match random.below(30) {

@@ -6,7 +6,7 @@ use crate::program;
 use crate::random::Random;
 use crate::tally::Tally;
 use reference::controller::Controller;
-use reference::drive::{Field, World, BOOK, CONTROLLER, FRAME, SWITCH, UNWRITTEN};
+use reference::drive::{Field, World, BOOK, CONTROLLER, SWITCH, UNWRITTEN};
 use reference::flow::Action;
 use reference::message::{Fields, SHARE_LENGTH};
 use reference::switch::Switch;
@@ -64,6 +64,7 @@ fn named(letter: u8) -> Option<(&'static str, usize)> {
         b'I' => ("raise in place", 5),
         b'E' => ("write event", 3),
         b'A' => ("write acknowledgement", 3),
+        b'F' => ("write FLOW_MOD", 1),
         b'L' => ("lookup", 4),
         b'T' => ("forward", 3),
         b'Q' => ("quorum", 3),
@@ -234,13 +235,14 @@ impl Script {
         let stays = match letter {
             b'M' | b'R' | b'I' | b'd' => answered != "0" && answered != "1",
             b'm' => answered != "0" || reply.answer == "0 offered",
-            b'E' | b'A' | b'w' | b'L' | b'T' | b'Q' | b'p' | b'K' | b'k' | b'b' | b'f' => true,
+            b'E' | b'A' | b'w' | b'F' | b'L' | b'T' | b'Q' | b'p' | b'K' | b'k' | b'b' | b'f' => true,
             _ => false,
         };
         if stays && self.state(letter, end) != Some(before) {
             self.complain(format!("{} answered {} and altered the state", reply.call, reply.answer));
         }
-        if matches!(letter, b'E' | b'A' | b'w') && answered != "0" && reply.frame() != [UNWRITTEN; FRAME] {
+        let writes = matches!(letter, b'E' | b'A' | b'w' | b'F');
+        if writes && answered != "0" && reply.frame().iter().any(|byte| *byte != UNWRITTEN) {
             self.complain(format!("{} answered {} and altered the frame", reply.call, reply.answer));
         }
     }

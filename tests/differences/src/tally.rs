@@ -1,4 +1,4 @@
-//! What was met: pairs of a call and its answer, counted, and held against the pairs that document 01 allows.
+//! What was met: pairs of a call and its answer, counted, and held against the pairs that the documents allow.
 
 use std::collections::BTreeMap;
 
@@ -43,7 +43,7 @@ impl Tally {
         missing
     }
 
-    /// The pairs met that the list has not, though it has their call: answers that document 01 does not allow there.
+    /// The pairs met that the list has not, though it has their call: answers that the documents do not allow there.
     pub fn unlisted(&self, list: &str) -> Vec<String> {
         let mut unlisted = Vec::new();
         for (call, answers) in list.lines().filter_map(|line| line.split_once(':')) {

@@ -3,6 +3,7 @@
 use crate::controller::{Controller, Undone};
 use crate::flow::{Action, Entry, Rule};
 use crate::message::Fields;
+use crate::openflow::write_flow_mod;
 use crate::playbook::{self, Change, Plan, Playbook};
 use crate::switch::{quorum, Looked, Raised, Slot, Switch};
 use crate::ENDS;
@@ -12,14 +13,15 @@ use std::fmt::{self, Display, Formatter};
 pub const SCRIPT: usize = 1_048_576;
 /// How many bytes of a body become a key store at most.
 pub const STORE: usize = 544;
-/// How many bytes a frame has at most.
+/// How many bytes a frame has at most; one for a FLOW_MOD has as many as its call says.
 pub const FRAME: usize = 64;
 /// What each byte of a frame is before a call.
 pub const UNWRITTEN: u8 = 0xEE;
 
-/// The letters of the calls at a switch, and at a controller.
+/// The letters of the calls at a switch and at a controller, and the one of a call at no end.
 const SWITCH_LETTERS: &[u8] = b"SKMRIEALTQX";
 const CONTROLLER_LETTERS: &[u8] = b"bfskmdwpx";
+const FLOW_MOD_LETTER: u8 = b'F';
 
 /// The ends, their key stores, and the playbook for the setups that follow.
 #[derive(Clone, Debug, PartialEq, Eq)]
@@ -72,8 +74,8 @@ impl World {
 
     /// Makes one call and gives its line, without the line feed.
     pub fn call(&mut self, letter: u8, end: u8, body: &[u8]) -> String {
-        let at_switch = SWITCH_LETTERS.contains(&letter);
-        if !at_switch && !CONTROLLER_LETTERS.contains(&letter) {
+        let (at_switch, at_controller) = (SWITCH_LETTERS.contains(&letter), CONTROLLER_LETTERS.contains(&letter));
+        if !at_switch && !at_controller && letter != FLOW_MOD_LETTER {
             return "unknown call".to_string();
         }
         if end as usize >= ENDS {
@@ -81,8 +83,10 @@ impl World {
         }
         if at_switch {
             format!("switch {end} {}", self.call_switch(letter, end as usize, body))
-        } else {
+        } else if at_controller {
             format!("controller {end} {}", self.call_controller(letter, end as usize, body))
+        } else {
+            flow_mod(Fields::new(body))
         }
     }
 
@@ -164,11 +168,31 @@ fn take_keys(keys: &mut Vec<u8>, body: &[u8]) -> String {
 /// Makes a writing call with a frame as the body says, and gives its line.
 fn written(mut fields: Fields, state: &impl Display, write: impl Fn(u8, &mut [u8], usize) -> u8) -> String {
     let length = FRAME.min(fields.byte() as usize);
-    let (to, at) = (fields.byte(), fields.wide());
+    let (to, at) = (fields.byte(), offset(&mut fields));
     let mut frame = [UNWRITTEN; FRAME];
-    let answer = write(to, &mut frame[..length], usize::try_from(at).unwrap_or(usize::MAX));
-    let hex: String = frame.iter().map(|byte| format!("{byte:02x}")).collect();
-    format!("written {answer} {state} frame {hex}")
+    let answer = write(to, &mut frame[..length], at);
+    format!("written {answer} {state} frame {}", hex(&frame))
+}
+
+/// Writes a FLOW_MOD into a frame as the body says, and gives its line.
+fn flow_mod(mut fields: Fields) -> String {
+    let mut frame = vec![UNWRITTEN; fields.byte() as usize];
+    let (at, number) = (offset(&mut fields), fields.long());
+    let rule = Rule { prefix: fields.long(), length: fields.byte(), action: action_of(fields.number(3)) };
+    let (answer, _) = write_flow_mod(number, &rule, &mut frame, at);
+    format!("flowmod {answer} {}", hex(&frame))
+}
+
+fn offset(fields: &mut Fields) -> usize {
+    usize::try_from(fields.wide()).unwrap_or(usize::MAX)
+}
+
+/// The bytes of a frame; one without bytes has a dash.
+fn hex(frame: &[u8]) -> String {
+    if frame.is_empty() {
+        return "-".to_string();
+    }
+    frame.iter().map(|byte| format!("{byte:02x}")).collect()
 }
 
 fn looked_up(looked: Looked) -> String {

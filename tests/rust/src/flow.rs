@@ -76,6 +76,11 @@ impl Rule {
     pub fn well_formed(&self) -> bool {
         well_formed_pair(self.prefix, self.length) && self.action != Action::Set(0)
     }
+
+    /// The bits that an address has in common with the prefix where the rule's entry matches it.
+    pub const fn mask(&self) -> u32 {
+        mask(self.length)
+    }
 }
 
 impl Entry {

@@ -1,5 +1,6 @@
-//! Document 01, "Quorum-approved route changes, stated with their exact rules", in Rust, written from its text alone.
-//! The proved software is compared with it call by call; nothing here knows how that software is built.
+//! Document 01, "Quorum-approved route changes, stated with their exact rules", and change request N1 of document 02 in
+//! Rust, written from their text alone. The proved software is compared with it call by call; nothing here knows how
+//! that software is built.
 //!
 //! States are plain data that anybody may damage. Every call over a state asks first whether the state obeys its limits
 //! (question 20), and no call panics, whatever it is handed.
@@ -11,6 +12,7 @@ pub mod drive;
 pub mod flow;
 pub mod ideal;
 pub mod message;
+pub mod openflow;
 pub mod playbook;
 pub mod rehearsal;
 pub mod switch;

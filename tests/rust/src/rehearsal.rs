@@ -1,10 +1,13 @@
-//! The rehearsal program (document 01, "Rehearsal program"): what it prints for an input.
+//! The rehearsal program (document 01, "Rehearsal program"): what it prints for an input, and the FLOW_MODs of what a
+//! switch applied (document 02, N1).
 
 use crate::controller::Controller;
-use crate::message::{is_switch, Fields, ACKNOWLEDGEMENT_LENGTH, KEY_LENGTH, SHARE_LENGTH};
+use crate::flow::Rule;
+use crate::message::{is_switch, Fields, Kind, Message, ACKNOWLEDGEMENT_LENGTH, KEY_LENGTH, SHARE_LENGTH};
+use crate::openflow::{flow_mod_length, write_flow_mod};
 use crate::playbook::{self, Playbook};
 use crate::switch::Switch;
-use crate::{ask, Question, DONE, ENDS};
+use crate::{ask, Question, APPLIED, DONE, ENDS};
 use std::fmt::Write;
 
 /// How many bytes a script has at most.
@@ -21,6 +24,40 @@ pub fn rehearse(input: &[u8]) -> String {
         Ok((mut world, script)) => world.play(script),
         Err(fault) => format!("0 {fault} 0\n"),
     }
+}
+
+/// A rule that a switch applied, and its change's number.
+#[derive(Clone, Copy, Debug, PartialEq, Eq)]
+pub struct Applied {
+    pub switch: u8,
+    pub number: u32,
+    pub rule: Rule,
+}
+
+/// What the switches of a rehearsal applied, in order, or the fault before its script.
+pub fn applied(input: &[u8]) -> Result<Vec<Applied>, u8> {
+    let (mut world, script) = begin(input)?;
+    world.play(script);
+    Ok(world.applied)
+}
+
+/// The FLOW_MODs of what a switch applied in a rehearsal, one behind the other. A switch above 15 is refused first, then
+/// what the rehearsal refuses before its script.
+pub fn flow_mods(switch: u8, input: &[u8]) -> Result<Vec<u8>, u8> {
+    ask(Question::Known, is_switch(switch)).map_err(Question::number)?;
+    let mut bytes = Vec::new();
+    for Applied { number, rule, .. } in applied(input)?.iter().filter(|applied| applied.switch == switch) {
+        let at = bytes.len();
+        bytes.resize(at + flow_mod_length(rule), 0);
+        write_flow_mod(*number, rule, &mut bytes, at);
+    }
+    Ok(bytes)
+}
+
+/// What the program `flowmods` gives for its standard input: a byte for the switch, then a rehearsal's input.
+pub fn flow_mods_of(input: &[u8]) -> Result<Vec<u8>, u8> {
+    let (&switch, rehearsal) = input.split_first().ok_or(Question::Whole.number())?;
+    flow_mods(switch, rehearsal)
 }
 
 /// The faults before the script, in order: no first byte, n, the playbook's refusal, script too long.
@@ -102,13 +139,14 @@ struct Kept {
     share: [u8; SHARE_LENGTH],
 }
 
-/// The ends of a rehearsal, their key stores, and the places.
+/// The ends of a rehearsal, their key stores, the places, and what was applied.
 struct World {
     switches: Vec<Switch>,
     controllers: Vec<Controller>,
     switch_keys: Vec<Vec<u8>>,
     controller_keys: Vec<Vec<u8>>,
     kept: [Option<Kept>; PLACES],
+    applied: Vec<Applied>,
 }
 
 impl World {
@@ -122,6 +160,7 @@ impl World {
             switch_keys: switches().map(switch_keys).collect(),
             controller_keys: (0..n).map(controller_keys).collect(),
             kept: [None; PLACES],
+            applied: Vec::new(),
         }
     }
 
@@ -165,7 +204,7 @@ impl World {
         self.ask_ids(controller, switch)?;
         let (answer, share) = self.make_share(controller, switch);
         if answer != DONE {
-            return Ok((answer, self.applied(switch)));
+            return Ok((answer, self.last_applied(switch)));
         }
         Ok(self.hand_over(switch, &share))
     }
@@ -193,7 +232,7 @@ impl World {
         if answer == DONE {
             self.kept[place as usize] = Some(Kept { switch, share });
         }
-        Ok((answer, self.applied(switch)))
+        Ok((answer, self.last_applied(switch)))
     }
 
     fn deliver(&mut self, place: u8) -> Result<Line, Question> {
@@ -219,10 +258,20 @@ impl World {
     fn hand_over(&mut self, switch: u8, share: &[u8]) -> Line {
         let to = switch as usize;
         let answer = self.switches[to].receive(&self.switch_keys[to], share);
-        (answer, self.applied(switch))
+        if answer == APPLIED {
+            self.note_applied(switch, share);
+        }
+        (answer, self.last_applied(switch))
     }
 
-    fn applied(&self, switch: u8) -> u32 {
+    /// Notes what an applied share carries.
+    fn note_applied(&mut self, switch: u8, share: &[u8]) {
+        if let Ok(Message::Share { number, rule, .. }) = Message::read(share, &[Kind::Share]) {
+            self.applied.push(Applied { switch, number, rule });
+        }
+    }
+
+    fn last_applied(&self, switch: u8) -> u32 {
         self.switches[switch as usize].last
     }
 

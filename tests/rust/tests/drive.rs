@@ -135,6 +135,52 @@ fn frames() {
     assert_eq!(printed[11], format!("switch 2 written 25 state 2 4 0 1 6 count 0 frame {}", "ee".repeat(FRAME)));
 }
 
+/// The body of a FLOW_MOD's call: the frame's length, the offset, the number, then the rule.
+fn flow_mod(frame: u8, at: u64, number: u32, rule: &[u8]) -> Vec<u8> {
+    [&[frame][..], &at.to_be_bytes(), &number.to_be_bytes(), rule].concat()
+}
+
+#[test]
+fn flow_mods() {
+    let default = [0, 0, 0, 0, 0, 0, 0, 0];
+    let route = [10, 0, 0, 0, 8, 255, 0, 3];
+    let printed = lines(&[
+        (b'F', 0, &flow_mod(66, 1, 7, &default)),
+        (b'F', 15, &flow_mod(96, 0, 7, &route)),
+        (b'F', 3, &flow_mod(65, 2, 7, &default)),
+        (b'F', 3, &flow_mod(64, u64::MAX - 63, 7, &default)),
+        (b'F', 3, &flow_mod(2, 0, 7, &[10, 0, 0, 1, 8, 1, 0, 3])),
+        (b'F', 3, &flow_mod(2, 0, 7, &[0, 0, 0, 0, 0, 1, 0, 0])),
+        (b'F', 3, &[]),
+        (b'F', 3, &flow_mod(64, 0, 7, &[0, 0, 0, 0, 0, 0, 0, 9, 99])),
+        (b'F', 3, &[64]),
+        (b'F', 16, &flow_mod(64, 0, 7, &default)),
+    ]);
+    let fixed = |length: u8, number: u8, command: u8, priority: u8| {
+        let zeros = "0".repeat(34);
+        format!(
+            "040e00{length:02x}000000{number:02x}{zeros}{command:02x}0000000000{priority:02x}{}00000000",
+            "f".repeat(24)
+        )
+    };
+    let any = "0001000a80000a020800000000000000";
+    let matched = "0001001680000a02080080001908".to_string() + "0a000000ff0000000000";
+    let output = "00040018000000000000001000000003".to_string() + &"0".repeat(16);
+    let expected = [
+        format!("flowmod 0 ee{}{any}ee", fixed(64, 7, 4, 0)),
+        format!("flowmod 0 {}{matched}{output}", fixed(96, 7, 0, 8)),
+        format!("flowmod 25 {}", "ee".repeat(65)),
+        format!("flowmod 25 {}", "ee".repeat(64)),
+        "flowmod 15 eeee".to_string(),
+        "flowmod 15 eeee".to_string(),
+        "flowmod 25 -".to_string(),
+        format!("flowmod 0 {}{any}", fixed(64, 7, 4, 0)),
+        format!("flowmod 0 {}{any}", fixed(64, 0, 4, 0)),
+        "unknown end".to_string(),
+    ];
+    assert_eq!(printed, expected);
+}
+
 #[test]
 fn calls_at_a_controller() {
     let keys = controller_keys(1);

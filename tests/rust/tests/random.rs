@@ -226,7 +226,7 @@ fn rehearsals() {
 #[test]
 fn drives() {
     let mut random = Random::new(16);
-    let letters = b"SKMRIEALTQXbfskmdwpxZ";
+    let letters = b"SKMRIEALTQXbfskmdwpxFZ";
     for _ in 0..60 {
         let mut world = World::new();
         for id in 0..3 {

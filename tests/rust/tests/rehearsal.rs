@@ -1,8 +1,10 @@
-//! The rehearsal program: faults before the script, each record's questions and figure, and where a script stops.
+//! The rehearsal program: faults before the script, each record's questions and figure, and where a script stops; the
+//! FLOW_MODs of what a switch applied.
 
 mod support;
 
-use reference::rehearsal::rehearse;
+use reference::openflow::write_flow_mod;
+use reference::rehearsal::{flow_mods, flow_mods_of, rehearse};
 use support::*;
 
 /// Document 01's example playbook, with n before it.
@@ -160,4 +162,56 @@ fn where_a_script_stops() {
             assert_eq!(played(&[DECIDE_1, &record[..cut]]), [(0, 2), (30, 0)], "a cut record is asked nothing");
         }
     }
+}
+
+fn flow_mod(number: u32, rule: reference::flow::Rule) -> Vec<u8> {
+    let mut frame = [0; 96];
+    let (answer, length) = write_flow_mod(number, &rule, &mut frame, 0);
+    assert_eq!(answer, 0);
+    frame[..length].to_vec()
+}
+
+/// Held and repeated shares have none; a share that is applied has one, whether it was sent, kept or raw.
+#[test]
+fn flow_mods_of_a_switch() {
+    let raw = |controller: u8, number: u32, rule| [vec![0x24, 2], share(controller, 2, number, rule)].concat();
+    let (route, gone) = (set(0x0A00_0000, 8, 3), remove(0x0A00_0000, 8));
+    let records = [
+        DECIDE_0.to_vec(),
+        DECIDE_1.to_vec(),
+        vec![0x22, 0, 2, 0x22, 0, 2],
+        vec![0x25, 1, 2, 4, 0x26, 4],
+        raw(0, 9, gone),
+        raw(1, 8, gone),
+        raw(3, 9, gone),
+        raw(2, 9, gone),
+        vec![0x23, 2, 0, 0x23, 2, 1, 0x22, 0, 5],
+        raw(0, 900, set(0, 0, 1)),
+        raw(1, 900, set(0, 0, 1)),
+        vec![0x22, 1, 5],
+        vec![0x99, 0x22],
+    ];
+    let input = [beginning(4), records.concat()].concat();
+    let made = [flow_mod(1, route), flow_mod(9, gone), flow_mod(900, set(0, 0, 1))].concat();
+    assert_eq!(flow_mods(2, &input), Ok(made.clone()));
+    assert_eq!(flow_mods(5, &input), Ok(flow_mod(2, set(0x0A00_0000, 8, 2))));
+    assert_eq!(flow_mods(15, &input), Ok(Vec::new()));
+    assert_eq!(flow_mods_of(&[vec![2], input].concat()), Ok(made));
+}
+
+#[test]
+fn flow_mods_refused() {
+    assert_eq!(flow_mods_of(&[]), Err(30));
+    for switch in [16, 255] {
+        assert_eq!(flow_mods_of(&[switch]), Err(12), "the switch is asked first");
+        assert_eq!(flow_mods_of(&[switch, 0]), Err(12));
+    }
+    assert_eq!(flow_mods_of(&[15]), Err(30));
+    assert_eq!(flow_mods_of(&[15, 17]), Err(20));
+    assert_eq!(flow_mods_of(&[15, 4]), Err(30));
+    assert_eq!(flow_mods_of(&[15, 4, 0x14]), Err(31));
+    assert_eq!(flow_mods_of(&[15, 4, 0x13]), Ok(Vec::new()));
+    let long = [vec![15, 4, 0x13], vec![0; 8193]].concat();
+    assert_eq!(flow_mods_of(&long), Err(28));
+    assert_eq!(flow_mods_of(&long[..3 + 8192]), Ok(Vec::new()));
 }
