@@ -305,6 +305,76 @@ disassembled() {
     silent disassemble
 }
 
+# Rehearsals
+
+# taken_in FILE: a rehearsal in either form, as `taken`; `text` is yes where it is in the notation.
+taken_in() {
+    taken "$1"
+    text=
+    if is_text; then text=yes; fi
+}
+
+# in_bytes: the rehearsal's bytes in the file `bytes` of this run.
+in_bytes() {
+    bytes=input
+    [ -n "$text" ] || return 0
+    assembled
+    bytes=assemble.out
+}
+
+# line_of K: the number of the text's line that its record K stands on, the number of controllers being record 0.
+line_of() {
+    sed -n "$(($1 + 1))p" "$work/map"
+}
+
+# blame WHAT K WORDS: tells what is wrong with the input's record K, which in bytes is called WHAT.
+blame() {
+    where=": $1"
+    [ -z "$text" ] || where=:$(line_of "$2")
+    say "$called$where: $3"
+}
+
+# surveyed: has `survey` read what stands before the script. `answer` is 0, and `at` how many records the playbook has;
+# or `answer` refuses the rehearsal, for the playbook's record `at`, 0 where it is no record's fault.
+surveyed() {
+    run survey "$bytes"
+    silent survey
+    read -r answer at <"$work/survey.out"
+    case $answer,$at in
+    *[!0-9,]* | ,* | *,) fail 6 'target/bin/survey printed no two numbers' ;;
+    esac
+}
+
+# tell_refused: tells why `answer` refuses the rehearsal, and where.
+tell_refused() {
+    words=$(sed -n 2p "$work/survey.out")
+    if [ "$at" -gt 0 ]; then
+        blame "record $at of the playbook" "$at" "$words"
+    elif [ "$answer" -eq 20 ]; then
+        blame 'the number of controllers' 0 "$words"
+    else
+        say "$called: $words"
+    fi
+}
+
+# stopped: whether the script stops at the last line of `rehearse`, which is of its record `ordinal`; `why` tells why.
+stopped() {
+    last=$(tail -n 1 "$work/rehearse.out")
+    ordinal=${last%% *}
+    case $last in
+    *' 30 0') why='the input ends within this record' ;;
+    *' 31 0') why='this is no record of a script' ;;
+    *) return 1 ;;
+    esac
+}
+
+# tell_stop: tells where the script stops. Its records follow those of the playbook, `at`.
+tell_stop() {
+    blame "record $ordinal" $((at + ordinal)) "the script stops here, since $why"
+}
+
+# The command line
+
 # helped: prints the help of a command.
 helped() {
     help 2>/dev/null || lost

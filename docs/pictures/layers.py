@@ -8,12 +8,16 @@ from page import BESIDE, GREY, LINE, TRUSTED, Page
 LAYERS = (
     ("programs for people", (
         ("rehearse", "prints lines"), ("explain", "in words"), ("picture", "as a timeline"),
+        ("flowmods", "as FLOW_MODs"), ("flowlist", "these in words"),
+    )),
+    ("these read first", (
         ("survey", "limits used"), ("assemble", "text to bytes"), ("disassemble", "bytes to text"),
     )),
     ("words for people", (
         ("story", "records in words"), ("faults", "refused plans"), ("notation", "names of records"),
         ("tied", "tables agree"), ("prose", "text to print"),
     )),
+    ("for other makers", (("feed", "the rules that a switch applied, and their FLOW_MODs"),)),
     ("a rehearsal", (("rehearsal", "a script carried out on both ends, and its lines"),)),
     ("the claim", (
         ("domain", "runs, ideal controller, claim"), ("witness", "premises are satisfiable"),
@@ -25,9 +29,10 @@ LAYERS = (
     )),
     ("what they share", (
         ("message", "messages read and written"), ("playbook", "plans read and found"),
+        ("openflow", "rules as FLOW_MODs"),
     )),
     ("what these use", (("tag", "SHA-256, HMAC, tags"), ("flow", "rules and flow tables"))),
-    ("the ground", (("lists", "arrays with a count, bytes"), ("answer", "numbers of answers, limits"))),
+    ("the ground", (("lists", "arrays with a count, bytes, frames"), ("answer", "numbers of answers, limits"))),
 )
 TESTS = (
     ("vectors", "tags"), ("trials", "messages, plans"), ("drive", "calls at both ends"),
@@ -100,7 +105,7 @@ def legend(page, y):
 
 def drawn(root):
     page = Page(
-        748, "The layers, and what you must trust",
+        856, "The layers, and what you must trust",
         "Each crate stands on crates below it. Shaded are the definitions that a reader must believe, and the kit.",
     )
     claim, others = trusted(root)
