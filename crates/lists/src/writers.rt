@@ -1,5 +1,6 @@
 // Numbers put into a part of a frame that is lent, big-endian: whole where they fit, and nothing where they do not.
-// Bytes that are made of one number side by side are compiled to one store.
+// put_u32 makes every byte of the whole number, and not of halves: so the compiler can store all four at once, and does
+// where no byte was stored just before.
 ghost use mathlib.Core.Path.{_≡_};
 ghost use mathlib.Core.List.{[], _∷_};
 ghost use Rattle.lists.specs.Bytes.{be};
