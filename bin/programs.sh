@@ -237,13 +237,13 @@ run() {
     { said=$("$root/target/bin/$1" <"$work/$2" 2>&1 >"$work/$1.out"); } 2>/dev/null
     ended=$?
     [ $ended -ne 0 ] || return 0
-    [ $ended -gt 128 ] || fail 6 "target/bin/$1 ended with status $ended"
+    [ $ended -gt 128 ] || fail "${crash:-6}" "target/bin/$1 ended with status $ended"
     needs=
     if [ $ended -eq 139 ]; then
         needs=$(awk -v name="$1" '$1 == name && NF > 2 { print "; it needs " $3 " MB of stack (ulimit -s)" }' \
             "$root/bin/measured.txt")
     fi
-    fail 6 "target/bin/$1 was ended by signal $((ended - 128))$needs"
+    fail "${crash:-6}" "target/bin/$1 was ended by signal $((ended - 128))$needs"
 }
 
 # silent PROGRAM: a program that said something could not write all that it had to.
@@ -341,7 +341,7 @@ surveyed() {
     silent survey
     read -r answer at <"$work/survey.out"
     case $answer,$at in
-    *[!0-9,]* | ,* | *,) fail 6 'target/bin/survey printed no two numbers' ;;
+    *[!0-9,]* | ,* | *,) fail "${crash:-6}" 'target/bin/survey printed no two numbers' ;;
     esac
 }
 

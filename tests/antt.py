@@ -224,23 +224,32 @@ class File:
         self.path, self.definitions = path, []
         self.head = " ".join(line[2:].strip() for line in itertools.takewhile(lambda l: l.startswith("--"), lines))
         self.uses = Uses(line for line in lines if line.startswith("use "))
-        module, found = None, []
+        modules, found = [], []
         for line in lines:
             bare = re.sub(r"(^|\s)--(\s.*)?$", "", line).rstrip()
+            deep = len(bare) - len(bare.lstrip())
             if re.match(PASSED, bare):
                 continue
-            if bare.startswith("module "):
-                module = Definition(path, [bare], None)
-                self.definitions.append(module)
-            elif re.match(BEGINS, bare) or module and re.match("  " + BEGINS, bare):
-                module = module if bare.startswith(" ") else None
+            begins = deep <= 2 * len(modules) and re.match(" " * deep + BEGINS, bare)
+            if bare.lstrip().startswith("module ") or begins:
+                modules = modules[:deep // 2]
+            if bare.lstrip().startswith("module "):
+                modules.append(self.nested(modules, bare))
+            elif begins:
                 if found and found[-1][1][-1].lstrip().startswith("infix"):
                     found[-1][1].append(bare)
                 else:
-                    found.append((module, [bare]))
+                    found.append((modules[-1] if modules else None, [bare]))
             else:
                 found[-1][1].append(bare)
         self.definitions += [Definition(path, block, module) for module, block in found]
+
+    def nested(self, modules, line):
+        """A module's line; its parameters are those of the modules around it and its own."""
+        module = Definition(self.path, [line], None)
+        module.binders = (modules[-1].binders if modules else ()) + module.binders
+        self.definitions.append(module)
+        return module
 
 
 def inside(tree):

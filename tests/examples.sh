@@ -6,7 +6,7 @@
 set -u
 script=examples.sh
 . tests/counting
-there assemble disassemble explain flowlist flowmods picture rehearse survey
+there assemble disassemble explain flowlist flowmods isolated links picture rehearse survey
 
 # The examples
 
@@ -32,7 +32,7 @@ for text in examples/*.txt; do
 done
 [ "$names" = ' first-evening second-evening' ]
 ended $? 'the examples are not the two evenings'
-[ "$(find examples -type f | wc -l)" -eq 8 ]
+[ "$(find examples -maxdepth 1 -type f | wc -l)" -eq 8 ]
 ended $? 'an example has more or fewer files than text, bytes, explanation and picture'
 
 # README and the planner's page

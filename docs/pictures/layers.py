@@ -12,6 +12,7 @@ LAYERS = (
     )),
     ("these read first", (
         ("survey", "limits used"), ("assemble", "text to bytes"), ("disassemble", "bytes to text"),
+        ("links", "links to bytes"), ("isolated", "checks links"),
     )),
     ("words for people", (
         ("story", "records in words"), ("faults", "refused plans"), ("notation", "names of records"),
@@ -19,6 +20,9 @@ LAYERS = (
     )),
     ("for other makers", (("feed", "the rules that a switch applied, and their FLOW_MODs"),)),
     ("a rehearsal", (("rehearsal", "a script carried out on both ends, and its lines"),)),
+    ("its links", (
+        ("checker", "the check as a function"), ("isolation", "links, packets' ways, the check and its theorem"),
+    )),
     ("the claim", (
         ("domain", "runs, ideal controller, claim"), ("witness", "premises are satisfiable"),
         ("edges", "document 01's marked edges"),
@@ -39,7 +43,7 @@ TESTS = (
     ("cases", "what these share"), ("timed", "for benchmarks"),
 )
 # Crates that hold definitions and proofs, and no code that runs.
-NO_CODE = ("tied", "domain", "witness", "edges", "protocol")
+NO_CODE = ("tied", "isolation", "domain", "witness", "edges", "protocol")
 KIT = (
     ("logic and prover", "check every proof"), ("compiler", "makes programs of the code"),
     ("read and write of C", "for programs only"),
@@ -105,7 +109,7 @@ def legend(page, y):
 
 def drawn(root):
     page = Page(
-        856, "The layers, and what you must trust",
+        910, "The layers, and what you must trust",
         "Each crate stands on crates below it. Shaded are the definitions that a reader must believe, and the kit.",
     )
     claim, others = trusted(root)

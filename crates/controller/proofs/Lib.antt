@@ -1,5 +1,4 @@
--- Laws of the controller end. Places, Planned, Scanning, Searching, Shares, Steps and Walked are for this
--- crate's own functions.
+-- Laws of the controller end. Places, Scanning, Searching, Shares, Steps and Walked are for this crate's own functions.
 pub mod Within
 pub mod Waiting
 pub mod Staying
@@ -7,6 +6,7 @@ pub mod Taken
 pub mod Deciding
 pub mod Full
 pub mod Numbering
+pub mod Planned
 pub mod Moves
 pub mod Kept
 pub mod Effects
@@ -14,7 +14,6 @@ pub mod Sent
 pub mod Holding
 pub mod Remade
 mod Places
-mod Planned
 mod Scanning
 mod Searching
 mod Shares

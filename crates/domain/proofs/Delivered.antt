@@ -110,6 +110,22 @@ module _ (S : Setting) (v : Valid S) where
     pub share-there : isMessage (shareNow r c (u .switch)) ≡ true
     share-there = rw (ready-found (undoneOf b) (within b (f .ok) .rising) (u .switch) u readied)
 
+    share-is : shareNow r c (u .switch) ≡ Share (b .id) (u .switch) (u .number) (u .rule)
+    share-is = rw (ready-found (undoneOf b) (within b (f .ok) .rising) (u .switch) u readied)
+
+    pub share-read : decode ends.Switch (encode (S .key c (u .switch)) (shareNow r c (u .switch)))
+        ≡ Share c (u .switch) k (u .rule)
+    share-read =
+        let s = u .switch in
+        let key = S .key c s in
+        let m = Share (b .id) s (u .number) (u .rule) in
+        let few = agreed-few (playbook S) (S .agreed) in
+        let n = fine .numbered in
+        let port = and-parts (prefixOk (ruleKey (u .rule))) (portOk (u .rule .action)) (fine .formed) .1 in
+        ap (λ x. decode ends.Switch (encode key x)) share-is
+        ∙ decode-encode key m (omega (arith, is-agreed .1), fine .in-range .0, fine .in-range .1) port
+        ∙ (λ i. Share (f .id i) s (n i) (u .rule))
+
     pub share-delivered : (w : Run)
         → seen S w (atSwitch (u .switch) (switch-calls.receives
         (encode (S .key c (u .switch)) (shareNow r c (u .switch)))))
@@ -118,14 +134,7 @@ module _ (S : Setting) (v : Valid S) where
     share-delivered w =
         let s = u .switch in
         let key = S .key c s in
-        let m = Share (b .id) s (u .number) (u .rule) in
-        let few = agreed-few (playbook S) (S .agreed) in
-        let n = fine .numbered in
-        let found = ready-found (undoneOf b) (within b (f .ok) .rising) s u readied in
-        let port = and-parts (prefixOk (ruleKey (u .rule))) (portOk (u .rule .action)) (fine .formed) .1 in
-        let read : decode ends.Switch (encode key m) ≡ Share c s k (u .rule) =
-        decode-encode key m (omega (arith, is-agreed .1), fine .in-range .0, fine .in-range .1) port
-        ∙ (λ i. Share (f .id i) s (n i) (u .rule)) in
+        let m = shareNow r c s in
         let sealed : isSealed (keyAt (switchKeys S s) c) (encode key m) ≡ true =
-        rw (switch-key s c (fine .known) known) (encode-sealed key m refl) in
-        rw (found, read, from-is (S .n) s (switchKeys S s) (encode key m) c known sealed, fine .formed)
+        rw (switch-key s c (fine .known) known) (encode-sealed key m share-there) in
+        rw (share-read, from-is (S .n) s (switchKeys S s) (encode key m) c known sealed, fine .formed)

@@ -8,7 +8,7 @@ use Prim.Native.Nat.{ℕ, _+_, _≤_, _<_}
 use native.Mathlib.Omega.{arith}
 use lib.Dec.{leb, eqb}
 use lib.ListN.{length, set, length-append, length-set}
-use borrow.Author.Tests.{leb-true, lt-ltb, le-leb, eq-eqb, ne-eqb}
+use borrow.Author.Tests.{leb-true, leb-false, lt-ltb, le-leb, eq-eqb, ne-eqb}
 use Rattle.answer.specs.Ask.{Question, reply}
 use Rattle.answer.proofs.Asked as ask
 use Rattle.answer.proofs.Asked.{asked, none-asked, reply-append, by-replies}
@@ -161,7 +161,8 @@ module _ (S : Setting) where
       pub by-decision : {C : Type 0}
           → (length (heldAfter t (s, cause)) ≤ 64 → decidedBy t s serial cause ≡ unchanged (decided t s serial cause) 0
           → advance course decision ≡ onward course decision → C)
-          → (decidedBy t s serial cause ≡ unchanged t 24 → C)
+          → (64 < length (heldAfter t (s, cause)) → decidedBy t s serial cause ≡ unchanged t 24
+          → advance course decision ≡ onward course decision → C)
           → ((q : ℕ) → (q ≡ 0 → ⊥) → (q ≡ 24 → ⊥) → decidedBy t s serial cause ≡ unchanged t q
           → advance course decision ≡ course → C)
           → C
@@ -171,7 +172,7 @@ module _ (S : Setting) where
           (λ q n m is on. declined q n m (asked-so ∙ is) on)
           (λ is on. by-bool room
           (λ e. taken (leb-true _ _ e) (asked-so ∙ is ∙ asked (unchanged t) _ 24 _ [] e ∙ none-asked _ _) on)
-          (λ e. full (asked-so ∙ is ∙ ask.refused (unchanged t) _ 24 _ [] e)))
+          (λ e. full (leb-false _ _ e) (asked-so ∙ is ∙ ask.refused (unchanged t) _ 24 _ [] e) on))
 
       -- what is then brought so far
       abbrev more : List Decision
@@ -205,7 +206,7 @@ module _ (S : Setting) where
                   ∙ ap (λ (l : List Undone). stillUndone (t .progress .acknowledged) (course .changes ++ l)) given-is;
             });
           }))
-          (λ is.
+          (λ large is on.
           let none : more ≡ [] = rw (is, eq-eqb c c refl) in
           rw (none, append-nil, is) f)
           (λ q n m is on.
@@ -228,6 +229,6 @@ module _ (S : Setting) where
           by-decision
           (λ room is on.
           rw (is, eq-eqb c c refl) (one-more ∙ sym grown))
-          (λ is. rw (is, eq-eqb c c refl, append-nil, append-nil) same)
+          (λ large is on. rw (is, eq-eqb c c refl, append-nil, append-nil) same)
           (λ q n m is on.
           rw (is, eq-eqb c c refl, ne-eqb q 24 m, ne-eqb q 0 n, append-nil) (one-more ∙ on ∙ same))

@@ -51,7 +51,7 @@ module _ (S : Setting) (v : Valid S) (r : Run) (R : Reached S r) (xs : List Call
   W : Walked S v r xs
   W = walked S v r R xs f
 
-  told-after : (k : ℕ) → Agreed D k → k ≤ r .switches (D .switch k) .last
+  pub told-after : (k : ℕ) → Agreed D k → k ≤ r .switches (D .switch k) .last
       → k ≤ acknowledgedOf (after .controllers c) (D .switch k)
   told-after k g done =
       let known = acknowledged-after D (laws S v (ranged S v)) (roomy S v (ranged S v)) c k (view r) (R .invariant) done

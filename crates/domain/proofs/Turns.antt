@@ -8,16 +8,17 @@ use mathlib.Core.Logic.{inl, inr, ⊎-elim}
 use Prim.Native.Nat.{ℕ, zero, suc, _<_}
 use Rattle.flow.specs.declared.Rule.{Rule}
 use Rattle.flow.specs.declared.Table.{Table}
+use Rattle.switch.specs.Calls as switch-calls
 use Rattle.controller.specs.Calls as controller-calls
 use Rattle.protocol.specs.Runs.{run, Every, Sometime, Rounds}
 use Rattle.protocol.proofs.Ends as protocol
 use Rattle.protocol.proofs.Worlds as protocol-worlds
 use Rattle.protocol.proofs.Claims as protocol-claims
 use Rattle.protocol.proofs.Runs.{run-append, every-append}
-use Rattle.domain.specs.Settings.{Setting, Valid}
-use Rattle.domain.specs.Calls.{Call, atController, Run, start, step}
+use Rattle.domain.specs.Settings.{Setting, Valid, Keeps}
+use Rattle.domain.specs.Calls.{Call, atSwitch, atController, Run, start, step}
 use Rattle.domain.specs.Premises.{InRun, Unforged, Premises}
-use Rattle.domain.specs.Rounds.{acknowledgementNow, Delivered, Turn, Round}
+use Rattle.domain.specs.Rounds.{acknowledgementNow, shareNow, Delivered, Turn, Round}
 use Rattle.domain.proofs.View.{domainOf, view, seen}
 use Rattle.domain.proofs.Agreed.{change-fine}
 use Rattle.domain.proofs.Reached.{Begun, Reached, Walked, begun-early, ranged, last-small, call-seen}
@@ -118,13 +119,27 @@ module _ (S : Setting) (v : Valid S) where
       seen-there _ _ (acknowledgement-delivered S v u s c known l fine (last-small S v u U s)) u rest (p refl))
       r R xs f (told s known)
 
+  -- the share of a ready number is among the calls still to come
+  abbrev Comes : ℕ → ℕ → World → Calls → Type 0
+  Comes c k w rest = protocol-worlds.Ready D (w .controllers c) k
+      → List·Memᴰ (protocol-worlds.takesShare (D .switch k) c k (D .content k)) rest
+
+  -- where a controller's share for the switch of a number reaches that switch, it does in the protocol
+  pub shared-seen : (c : ℕ) → Keeps S c → (r : Run) → Reached S r → (xs : List Call) → Fair r xs → (k : ℕ)
+      → Delivered S (S .key c (D .switch k)) (λ u. shareNow u c (D .switch k))
+      (λ bytes. atSwitch (D .switch k) (switch-calls.receives bytes)) r xs
+      → Sometime (protocol-worlds.step D) (Comes c k) (view r) (calls r xs)
+  shared-seen c keeps r R xs f k shared =
+      moment-seen _ (Comes c k)
+      (λ u U begun rest p ready.
+      let b = begun c keeps in
+      let fine = U .controllers c keeps in
+      seen-there _ _ (share-delivered S v u c (keeps .0) (ranged S v) _ (b .0) (b .1) fine k ready) u rest
+      (p (share-there S v u c (keeps .0) (ranged S v) _ (b .0) (b .1) fine k ready)))
+      r R xs f shared
+
   -- a full round is one of the protocol's
   module _ (r : Run) (R : Reached S r) (xs : List Call) (f : Fair r xs) (round : Round S r xs) where
-    -- the share of a ready number is among the calls still to come
-    abbrev Comes : ℕ → ℕ → World → Calls → Type 0
-    Comes c k w rest = protocol-worlds.Ready D (w .controllers c) k
-        → List·Memᴰ (protocol-worlds.takesShare (D .switch k) c k (D .content k)) rest
-
     module _ (c : ℕ) (l : c < S .n) (keeps : S .strays c ≡ false) where
       abbrev turn : Turn S c r xs
       turn = round c (l, keeps)
@@ -141,16 +156,9 @@ module _ (S : Setting) (v : Valid S) where
       turn-shared : (k : ℕ) → protocol-worlds.Agreed D k
           → Sometime (protocol-worlds.step D) (Comes c k) (view middle) (calls middle (turn .second))
       turn-shared k a =
-          let s = D .switch k in
-          let known = change-fine S v (ranged S v) k a .known in
-          moment-seen _ (Comes c k)
-          (λ u U begun rest p ready.
-          let b = begun c (l, keeps) in
-          let fine = U .controllers c (l, keeps) in
-          seen-there _ _ (share-delivered S v u c l (ranged S v) _ (b .0) (b .1) fine k ready) u rest
-          (p (share-there S v u c l (ranged S v) _ (b .0) (b .1) fine k ready)))
-          middle (walked r R (turn .first) early .reached) (turn .second)
-          (fair-rest r (turn .first) (turn .second) both) (turn .shared s known)
+          shared-seen c (l, keeps) middle (walked r R (turn .first) early .reached) (turn .second)
+          (fair-rest r (turn .first) (turn .second) both) k
+          (turn .shared (D .switch k) (change-fine S v (ranged S v) k a .known))
 
     round-seen : protocol-claims.Round D (view r) (calls r xs)
     round-seen c i serves =

@@ -6,7 +6,7 @@ use crate::Action;
 use crate::Rule;
 
 // The number of addresses under a prefix of this length.
-pub(crate) fn size_of(length: u8) -> u64
+pub fn size_of(length: u8) -> u64
     ensures { λ r. ⌜ r ≡ blockSize length ⌝ }
 {
     if length <= 32 {
@@ -17,7 +17,7 @@ pub(crate) fn size_of(length: u8) -> u64
 }
 
 // Whether a length is at most 32, and the prefix bits past it are zero.
-pub(crate) fn prefix_ok(prefix: u32, length: u8) -> bool
+pub fn prefix_ok(prefix: u32, length: u8) -> bool
     ensures { λ r. ⌜ r ≡ prefixOk (prefix, length) ⌝ }
 {
     if 32 < length {

@@ -235,6 +235,43 @@ module _ {Content Table : Type 0} (D : Domain Content Table) where
           v rest b q (now (primed-ready v (q .0) c keeps (q .1) undone))))
           w xs a (I, p) h .1
 
+    -- where every member that keeps the rules is heard, m is made: else all of them would hold it, a quorum
+    module _ (m : ℕ) (agreed : Agreed D m) where
+      held-made : (w : World Content Table) → Invariant D w
+          → ((c : ℕ) → Serves D w c m → DoneOrHeld m agreed c w) → m ≤ lasts w (D .switch m)
+      held-made w I heard =
+          by-le m (lasts w (D .switch m)) (λ l. l)
+          (λ undone.
+          let all : (c : ℕ) → c < D .controllers → (isMember D w (D .switch m) c && not (D .strays c)) ≡ true
+          → holds D m (D .content m) (w .switches (D .switch m) .slots c) ≡ true =
+          λ c l e.
+          let both = and-parts (isMember D w (D .switch m) c) _ e in
+          let keeps = not-true (D .strays c) (both .1) in
+          let held = ⊎-elim (λ done. absurd (omega arith)) (λ h. h)
+          (heard c (record { known = l; keeps = keeps; agreed = agreed; member = both .0 }) (both .0)) in
+          and-join _ _ (eq-eqb _ _ (held .0)) (rw (held .1) (L .same-mine (D .content m))) in
+          let many = count-mono (D .controllers) (λ c. isMember D w (D .switch m) c && not (D .strays c))
+          (λ c. holds D m (D .content m) (w .switches (D .switch m) .slots c)) all in
+          absurd (omega (
+            arith,
+            many,
+            count-both (D .controllers) (isMember D w (D .switch m)) (D .strays),
+            I .trusted (D .switch m) .enough,
+            I .short (D .switch m) m (D .content m) (agreed .0),
+          )))
+
+      -- where the share of each of them that is primed reaches the switch of m, m is made
+      pub shares-make : (w : World Content Table) → Invariant D w → (xs : List (Call Content))
+          → Every (step D) (Allowed D) w xs
+          → ((c : ℕ) → Serves D (run (step D) w xs) c m → Primed m agreed c w)
+          → ((c : ℕ) → Serves D (run (step D) w xs) c m
+          → Sometime (step D) (λ v rest. Ready D (v .controllers c) m
+          → List·Memᴰ (takesShare (D .switch m) c m (D .content m)) rest) w xs)
+          → m ≤ lasts (run (step D) w xs) (D .switch m)
+      shares-make w I xs a primed comes =
+          held-made (run (step D) w xs) (run-kept D L w I xs a)
+          (λ c serves. shared-held m agreed c (serves .keeps) w I (primed c serves) xs a (comes c serves))
+
     -- the first half: an applied number is acknowledged at its end
     pub acknowledged-after : (c j : ℕ) (w : World Content Table) → Invariant D w → j ≤ lasts w (D .switch j)
         → (xs : List (Call Content)) → Every (step D) (Allowed D) w xs
@@ -293,34 +330,14 @@ module _ {Content Table : Type 0} (D : Domain Content Table) where
                   (h .acknowledged j (t .0, omega (arith, t .1, agreed .1)));
             }
 
-        -- else all members that keep the rules would hold it
         pub round-makes : m ≤ lasts end (D .switch m)
         round-makes =
-            let K = run-kept D L w I calls a in
-            by-le m (lasts end (D .switch m)) (λ l. l)
-            (λ undone.
-            let all : (c : ℕ) → c < D .controllers → (isMember D end (D .switch m) c && not (D .strays c)) ≡ true
-            → holds D m (D .content m) (end .switches (D .switch m) .slots c) ≡ true =
-            λ c l e.
-            let both = and-parts (isMember D end (D .switch m) c) _ e in
-            let keeps = not-true (D .strays c) (both .1) in
-            let serves : Serves D end c m = record { known = l; keeps = keeps; agreed = agreed; member = both .0 } in
+            held-made m agreed end (run-kept D L w I calls a) (λ c serves.
             let t = round c m serves in
             let b = halves c t in
-            let held = ⊎-elim (λ done. absurd (omega arith)) (λ h. h)
-            (subst (DoneOrHeld m agreed c) (turned c t)
-            (shared-held m agreed c keeps (run (step D) w (t .first)) (run-kept D L w I (t .first) (b .0))
-            (primed c serves) (t .second) (b .1) (t .shared m serves)) (both .0)) in
-            and-join _ _ (eq-eqb _ _ (held .0)) (rw (held .1) (L .same-mine (D .content m))) in
-            let many = count-mono (D .controllers) (λ c. isMember D end (D .switch m) c && not (D .strays c))
-            (λ c. holds D m (D .content m) (end .switches (D .switch m) .slots c)) all in
-            absurd (omega (
-              arith,
-              many,
-              count-both (D .controllers) (isMember D end (D .switch m)) (D .strays),
-              K .trusted (D .switch m) .enough,
-              K .short (D .switch m) m (D .content m) (agreed .0),
-            )))
+            subst (DoneOrHeld m agreed c) (turned c t)
+            (shared-held m agreed c (serves .keeps) (run (step D) w (t .first)) (run-kept D L w I (t .first) (b .0))
+            (primed c serves) (t .second) (b .1) (t .shared m serves)))
 
     module _ (d : ℕ) (all : d ≤ D .total) where
       -- up to d numbers are given at each controller that keeps the rules and is a member of some switch

@@ -45,7 +45,7 @@ module _ (S : Setting) (v : Valid S) where
   nothing-fair r b = record { in-run = tt; unforged = tt; begun = b }
 
   -- a list of calls for each number below k: within the premises if each is, wherever it begins
-  each-fair : (k : ℕ) (calls : Run → ℕ → List Call)
+  pub each-fair : (k : ℕ) (calls : Run → ℕ → List Call)
       → ((u : Run) → Reached S u → Begun S u → (i : ℕ) → i < k → Fair S v u (calls u i))
       → (r : Run) → Reached S r → Begun S r → Fair S v r (forEach S k calls r)
   unfolding forEach
@@ -131,7 +131,7 @@ module _ (S : Setting) (v : Valid S) where
       pick-keeps (Fair S v r) (S .strays c) _ _ (λ e. nothing-fair r b)
       (λ e. acknowledgement-arrives r R b s c l (known, e))
 
-  shares-fair : (s : ℕ) → s < 16 → (r : Run) → Reached S r → Begun S r → (c : ℕ) → c < S .n
+  pub shares-fair : (s : ℕ) → s < 16 → (r : Run) → Reached S r → Begun S r → (c : ℕ) → c < S .n
       → Fair S v r (shares S s r c)
   shares-fair s l r R b c known =
       pick-keeps (Fair S v r) (not (S .strays c) && isMessage (shareNow r c s)) _ _
@@ -177,13 +177,21 @@ module _ (S : Setting) (v : Valid S) where
         (each-moment Told (S .n) (tells S s) c (keeps .0)
         (λ u rest. rw (keeps .1) (now (step S) Told u _ (λ e. List·Memᴰ·tail (List·Memᴰ·head refl))))) r [])
 
+    -- the shares for s alone, with any calls behind them
+    shared : (r : Run) (rest : List Call) → Sometime (step S) Sent r (forEach S (S .n) (shares S s) r ++ rest)
+    shared =
+        each-moment Sent (S .n) (shares S s) c (keeps .0)
+        (λ u rest. now (step S) Sent u (shares S s u c ++ rest) (λ e.
+        rw (keeps .1, e) (List·Memᴰ·tail (List·Memᴰ·head refl))))
+
+    pub shared-here : (r : Run) → Delivered S (S .key c s) (λ u. shareNow u c s)
+        (λ bytes. atSwitch s (receives bytes)) r (forEach S (S .n) (shares S s) r)
+    shared-here r = subst (Sometime (step S) Sent r) (append-nil (forEach S (S .n) (shares S s) r)) (shared r [])
+
     sent : (r : Run) → Delivered S (S .key c s) (λ u. shareNow u c s) (λ bytes. atSwitch s (receives bytes)) r (secondHalf S r)
     sent r =
         subst (Sometime (step S) Sent r) (append-nil (secondHalf S r))
-        (each-moment Sent _ _ s (omega arith)
-        (each-moment Sent (S .n) (shares S s) c (keeps .0)
-        (λ u rest. now (step S) Sent u (shares S s u c ++ rest) (λ e.
-        rw (keeps .1, e) (List·Memᴰ·tail (List·Memᴰ·head refl))))) r [])
+        (each-moment Sent _ _ s (omega arith) shared r [])
 
   round-full : (r : Run) → Round S r (round S r)
   round-full r c keeps = record {
