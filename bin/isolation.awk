@@ -1,5 +1,5 @@
-# What the check of isolation found, in words. Reads LINKS, the evening as `disassemble` prints it, its decisions and the
-# lines of `isolated`. Prints a line  status N  and then the words; where a packet crosses at rest, the file `script` gets
+# What the check of isolation found, in words. Reads LINKS (network), the evening as `disassemble` prints it (plain), its
+# decisions (decisions), which may be none, and the lines of `isolated`. Prints a line  status N  and then the words; where a packet crosses at rest, the file `script` gets
 # a rehearsal that makes these changes and no other. LINKS is good: `links` has read it.
 function numbered(name) {
     if (name != "all" && !(name in client)) {
@@ -17,8 +17,7 @@ function whose(s, p) {
     return "switch " s " by port " p ", a link of " owner[s, p]
 }
 function changes_of(list) { return list == "" ? "before any change is made" : "once changes" list " are made" }
-FNR == 1 { part++ }
-part == 1 {
+FILENAME ~ /network$/ {
     sub(/#.*/, "")
     if ($1 == "link") {
         owner[$3, $5] = $NF
@@ -30,15 +29,15 @@ part == 1 {
     }
     next
 }
-part == 2 {
+FILENAME ~ /plain$/ {
     if (!ended) head[++heads] = $0
     if ($1 == "plan") plan = $3 " " $5
     if ($1 == "change") size[plan]++
     if ($1 == "end") ended = 1
     next
 }
-part == 3 && NF == 3 && $1 != "apart" {
-    list[++decisions] = $0
+FILENAME ~ /decisions$/ {
+    if ($1 != "apart") list[++decisions] = $0
     next
 }
 $1 == "decision" {

@@ -56,6 +56,27 @@ print() {
     { cat "$1"; } 2>/dev/null || lost
 }
 
+# writable FILE: refuses a file that cannot be written.
+writable() {
+    folder=$(dirname -- "$1")
+    if [ -d "$1" ] || { [ -e "$1" ] && [ ! -w "$1" ]; } || [ ! -d "$folder" ] ||
+        { [ ! -e "$1" ] && [ ! -w "$folder" ]; }; then
+        fail 5 "cannot write $1"
+    fi
+}
+
+# put FROM FILE: a file of this run in its place: whole or not at all where a file can be made beside it. A link stays a
+# link.
+put() {
+    place=$(readlink -f -- "$2")
+    if { [ ! -e "$place" ] || [ -f "$place" ]; } && [ -w "$(dirname -- "$place")" ]; then
+        beside=$place.$$
+        { (set -C && cat "$work/$1" >"$beside") && mv -f -- "$beside" "$place"; } 2>/dev/null
+    else
+        { cat "$work/$1" >"$2"; } 2>/dev/null
+    fi || fail 5 "cannot write $2"
+}
+
 # Building
 
 # crates_of PROGRAM..: the crates that these are made of, each behind those that it is built on.

@@ -1,8 +1,8 @@
 #!/bin/sh
 # drive, rehearse and flowmods print what the Rust side of tests/rust has for random and damaged inputs of a fixed seed,
-# call by call; random runs keep what document 01 claims of a run; the Rust side passes its own tests; and every fault
-# that is seeded in it (tests/differences/traps) is found. Every pair of call and answer that the documents allow is met,
-# or a test fails.
+# call by call; isolated answers what trying everything finds there; random runs keep what document 01 claims of a run;
+# the Rust side passes its own tests; and every fault that is seeded in it (tests/differences/traps) is found. Every pair
+# of call and answer that the documents allow is met, or a test fails.
 set -u
 if ! cargo --version >/dev/null 2>&1; then
     echo 'not run: tests/differences.sh needs cargo'
@@ -13,7 +13,8 @@ programs=$(pwd)/target/bin
 drive=target/bin/drive
 rehearse=target/bin/rehearse
 flowmods=target/bin/flowmods
-for program in $drive $rehearse $flowmods target/bin/assemble; do
+isolated=target/bin/isolated
+for program in $drive $rehearse $flowmods $isolated target/bin/assemble; do
     if [ ! -x "$program" ]; then
         echo "tests/differences.sh: $program is not there; rt check makes it"
         echo '0 passed, 1 failed'
@@ -52,6 +53,7 @@ ended() {
 fixed_calls="calls --scripts 160 --drive $drive"
 fixed_rehearsals="rehearsals --scripts 600 --rehearse $rehearse"
 fixed_flowmods="flowmods --scripts 300 --flowmods $flowmods"
+fixed_isolation="isolation --scripts 4000 --isolated $isolated"
 fixed_runs="runs --scripts 240"
 
 # Seeded faults: each is made in a copy, built, and must be found by every check that its `by` line names.
@@ -73,6 +75,7 @@ found() {
         calls) run=$fixed_calls ;;
         rehearsals) run=$fixed_rehearsals ;;
         flowmods) run=$fixed_flowmods ;;
+        isolation) run=$fixed_isolation ;;
         runs) run=$fixed_runs ;;
         *) return 1 ;;
         esac
@@ -103,7 +106,7 @@ if ! $build --release --manifest-path tests/differences/Cargo.toml; then
     echo '0 passed, 1 failed'
     exit 1
 fi
-for kind in calls rehearsals flowmods runs; do
+for kind in calls rehearsals flowmods isolation runs; do
     eval "run=\$fixed_$kind"
     # shellcheck disable=SC2086
     $limit "$compare" $run --pairs >"$work/$kind" 2>&1

@@ -88,6 +88,11 @@ ended $? "not every list of two decisions was found fine: $(cat "$work/printed")
 bin/isolation --any 2 $plans/near-first.txt $plans/links.txt >"$work/printed" 2>&1
 [ $? -eq 6 ] && grep -q ', in list [0-9]* of 6: switch 2 cause 1, then switch 4 cause 1$' "$work/printed"
 ended $? "the list that crosses was not told: $(cat "$work/printed")"
+sed 's/^agreed.*//' $plans/near-first.txt >"$work/any.txt"
+bin/isolation --any 3 --rehearsal "$work/shown.txt" "$work/any.txt" $plans/links.txt >"$work/printed" 2>&1
+[ $? -eq 6 ] && grep -q ', in list [0-9]* of 14: switch 2 cause 1, then switch 4 cause 1$' "$work/printed"
+ended $? "an evening without decisions was not tried with every list: $(cat "$work/printed")"
+rehearsed 'every list' ' 1 3 4 5'
 says 'a budget that is too small' 7 'undecided: 12 states were not enough; give a larger --budget, --settled, or fewer decisions
 ' --budget 12 $plans/far-first.txt $plans/links.txt
 bin/isolation --budget 13 $plans/far-first.txt $plans/links.txt >"$work/printed" 2>&1

@@ -1,5 +1,6 @@
 //! Differential tests: random and damaged inputs to `drive`, `rehearse` and `flowmods`, compared with the Rust side call
-//! by call, and random runs checked against the ideal controller. Every script comes again from its seed and number.
+//! by call, random runs checked against the ideal controller, and answers of `isolated` compared with trying
+//! everything. Every script comes again from its seed and number.
 
 #![forbid(unsafe_code)]
 
@@ -11,6 +12,8 @@ mod calls;
 mod domain;
 mod edit;
 mod flowmods;
+mod isolation;
+mod networks;
 mod program;
 mod random;
 mod rehearsals;
@@ -28,11 +31,12 @@ const HELP: &str = "\
 differences calls       random scripts of drive, compared line by line
 differences rehearsals  random inputs of rehearse, compared line by line
 differences flowmods    random inputs of flowmods, compared byte by byte
+differences isolation   random networks and evenings of isolated, its answers compared with trying everything
 differences runs        random runs, checked against the ideal controller; their calls are compared too
 differences edit FILE FOLDER
                         makes the edits of FILE in FOLDER; each old text must stand there exactly once
 
-  --drive PATH, --rehearse PATH, --flowmods PATH
+  --drive PATH, --rehearse PATH, --flowmods PATH, --isolated PATH
                   the program to compare with; without it only the Rust side's own checks are made
   --seed S        the seed (1)
   --scripts N     how many scripts, numbered from 0 (100)
@@ -150,6 +154,7 @@ fn main() -> ExitCode {
         "runs" => with("--drive", runs::script, runs::PAIRS, ""),
         "rehearsals" => with("--rehearse", rehearsals::script, rehearsals::PAIRS, ""),
         "flowmods" => with("--flowmods", flowmods::script, flowmods::PAIRS, flowmods::EDGES),
+        "isolation" => with("--isolated", isolation::script, isolation::PAIRS, isolation::EDGES),
         "edit" => edit::edit(rest).map(|()| true),
         _ => Err(format!("{kind} is not known; --help tells")),
     };

@@ -11,6 +11,7 @@ pub mod controller;
 pub mod drive;
 pub mod flow;
 pub mod ideal;
+pub mod isolation;
 pub mod message;
 pub mod openflow;
 pub mod playbook;
