@@ -5,6 +5,7 @@ use mathlib.Core.List.{List}
 use lib.Dec.{leb, eqb}
 use lib.ListN.{replicate, take}
 use Rattle.answer.specs.Ask.{pick}
+use Rattle.answer.specs.Limits.{switchCount}
 use Rattle.lists.specs.Arrays.{pad}
 use Rattle.lists.specs.Kinds.{isAmong}
 use Rattle.controller.specs.declared.Undone.{Undone}
@@ -23,7 +24,7 @@ use Rattle.checker.specs.declared.Outcome.{Outcome}
 abbrev pub aimed : Aim → List Undone → ℕ → Network → ℕ → Verdict
 aimed Resting us settled N budget = check us settled N budget
 aimed Losing us settled N budget = checkLost us settled N budget
-aimed Moving us settled N budget = checkFlights us settled 16 N budget
+aimed Moving us settled N budget = checkFlights us settled switchCount N budget
 
 abbrev pub losingFor : Aim → Bool
 losingFor Resting = false

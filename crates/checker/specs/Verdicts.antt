@@ -4,6 +4,7 @@ use mathlib.Core.Bool.{Bool}
 use mathlib.Core.List.{List}
 use lib.Dec.{eqb}
 use Rattle.answer.specs.Ask.{pick}
+use Rattle.answer.specs.Limits.{switchCount}
 use Rattle.controller.specs.declared.Undone.{Undone}
 use Rattle.isolation.specs.Networks.{Traffic, Network}
 use Rattle.isolation.specs.Traces.{End, arrived, lost, crossed, circling, Step, foreign, leaves, goesTo}
@@ -53,4 +54,4 @@ locatedIn q f = verdictIn q (f .address) (f .ruling)
 abbrev pub aimedAt : Aim → Bool → List Undone → ℕ → Network → Traffic → ℕ → ℕ → Verdict
 aimedAt Resting losing us settled N t address budget = checkAddress us (wantedBy losing) settled N t address budget
 aimedAt Losing losing us settled N t address budget = checkAddress us (wantedBy losing) settled N t address budget
-aimedAt Moving losing us settled N t address budget = flightTo us settled 16 N t address budget
+aimedAt Moving losing us settled N t address budget = flightTo us settled switchCount N t address budget

@@ -5,6 +5,8 @@ ghost use Prim.Native.Nat.{_+_, _*_, _/_, _≤_, _<_};
 ghost use lib.ListN.{length, take, drop};
 ghost use Rattle.playbook.specs.Storing.{storedOk};
 ghost use Rattle.checker.specs.Agreeing.{decisionAt, decisionsIn, putAt, laidWith, courseWith, agreedOf};
+ghost use Rattle.answer.specs.Limits.{largest};
+ghost use Rattle.playbook.specs.Limits.{maxChanges};
 use crate::Agreed;
 use crate::CHANGED;
 use crate::Course;
@@ -40,7 +42,7 @@ fn lay(
     from: usize,
     count: usize,
 ) -> [u32; CHANGED]
-    requires { ⌜ (from + count ≤ 512) × (at + count ≤ 4294967295) × (0 < count) ⌝ }
+    requires { ⌜ (from + count ≤ maxChanges) × (at + count ≤ largest) × (0 < count) ⌝ }
     ensures { λ r. ⌜ r ≡ laidWith changes at (at + 1) (take count (drop from listed)) ⌝ }
 {
     let first = (at + 1) as u32;
@@ -57,7 +59,7 @@ fn lay(
 
 // One decision more: questions 12, 22 and 23; then its serial, and its plan's changes.
 fn advance(c: Course, p: Playbook, switch: u8, serial: u32, cause: u8) -> Course
-    requires { ⌜ (storedOk p ≡ true) × (c .count ≤ 4294967295) ⌝ }
+    requires { ⌜ (storedOk p ≡ true) × (c .count ≤ largest) ⌝ }
     ensures { λ r. ⌜ r ≡ courseWith p c switch serial cause ⌝ }
 {
     if bounds::SWITCHES <= switch {

@@ -16,7 +16,7 @@ use crate::limits;
 
 // A field of the change at a place.
 pub(crate) fn field(changes: &[u32; CHANGED], i: usize, f: usize) -> u32
-    requires { ⌜ (i < 256) × (f < 6) ⌝ }
+    requires { ⌜ (i < mostChanges) × (f < 6) ⌝ }
     ensures { λ r. ⌜ r ≡ getD (now (changes .entry)) (i * 6 + f) 0 ⌝ }
 {
     changes[i * limits::CHANGE + f]
@@ -24,7 +24,7 @@ pub(crate) fn field(changes: &[u32; CHANGED], i: usize, f: usize) -> u32
 
 // Whether the change at a place has to wait for the one at another.
 pub(crate) fn waits_for(changes: &[u32; CHANGED], i: usize, j: usize) -> bool
-    requires { ⌜ (i < 256) × (j < 256) ⌝ }
+    requires { ⌜ (i < mostChanges) × (j < mostChanges) ⌝ }
     ensures { λ r. ⌜ r ≡ waitsFor (changeAt (now (changes .entry)) i) (changeAt (now (changes .entry)) j) ⌝ }
 {
     if i <= j {
@@ -46,7 +46,7 @@ pub(crate) fn skips_none(
     marks: &[bool; limits::CHANGES],
     k: usize,
 ) -> bool
-    requires { ⌜ k < 256 ⌝ }
+    requires { ⌜ k < mostChanges ⌝ }
     ensures { λ r. ⌜ r
         ≡ every (λ v. not (waitsFor (changeAt (now (changes .entry)) k) v)
         || isAmong (v .number) (madeIn (now (marks .entry)) k)) (changesIn (now (changes .entry)) k) ⌝ }
@@ -92,7 +92,7 @@ pub(crate) fn does_cover(prefix: u32, length: u32, address: u64) -> bool
 
 // Whether the prefix of the change at a place covers an address.
 pub(crate) fn is_covering(changes: &[u32; CHANGED], i: usize, address: u64) -> bool
-    requires { ⌜ i < 256 ⌝ }
+    requires { ⌜ i < mostChanges ⌝ }
     ensures { λ r. ⌜ r ≡ lookups.covers (ruleKey (changeAt (now (changes .entry)) i .rule)) address ⌝ }
 {
     let prefix = field(changes, i, limits::PREFIX);
@@ -102,7 +102,7 @@ pub(crate) fn is_covering(changes: &[u32; CHANGED], i: usize, address: u64) -> b
 
 // Whether the change at a place is on a switch and its prefix covers an address.
 pub(crate) fn is_on(changes: &[u32; CHANGED], i: usize, switch: u32, address: u64) -> bool
-    requires { ⌜ i < 256 ⌝ }
+    requires { ⌜ i < mostChanges ⌝ }
     ensures { λ r. ⌜ r ≡ onAt (now (changes .entry)) i switch address ⌝ }
 {
     if field(changes, i, limits::SWITCH) == switch {

@@ -7,6 +7,7 @@ ghost use Rattle.lists.specs.Arrays.{pad, every};
 ghost use Rattle.isolation.specs.Networks.{trafficOk};
 ghost use Rattle.checker.specs.Layout.{changesIn, lineAt, trafficFrom, trafficIn, networkIn};
 ghost use Rattle.checker.specs.Checked.{aimed, losingFor, noLine, plainly, toldOf, outcomeOf, checkedOf};
+ghost use Rattle.checker.specs.Layout.{mostChanges, mostLinks, mostLines};
 use crate::Aim;
 use crate::CHANGED;
 use crate::LINED;
@@ -21,7 +22,7 @@ use crate::verdicts;
 
 // The line of traffic at a place.
 fn line_at(traffic: &[u32; LINED], i: usize) -> Line
-    requires { ⌜ i < 64 ⌝ }
+    requires { ⌜ i < mostLines ⌝ }
     ensures { λ r. ⌜ r ≡ lineAt (now (traffic .entry)) i ⌝ }
 {
     let at = i * limits::LINE;
@@ -37,7 +38,7 @@ fn line_at(traffic: &[u32; LINED], i: usize) -> Line
 fn line_ok(line: Line) -> bool
     ensures { λ r. ⌜ r ≡ trafficOk (trafficFrom line) ⌝ }
 {
-    if 16 <= line.entry {
+    if limits::SWITCHES <= line.entry {
         return false;
     }
     if 32 < line.length {
@@ -48,7 +49,7 @@ fn line_ok(line: Line) -> bool
 
 // Whether every one of the first lines of traffic is so.
 fn lines_ok(traffic: &[u32; LINED], lines: usize) -> bool
-    requires { ⌜ lines ≤ 64 ⌝ }
+    requires { ⌜ lines ≤ mostLines ⌝ }
     ensures { λ r. ⌜ r ≡ every trafficOk (trafficIn (now (traffic .entry)) lines) ⌝ }
 {
     let mut i: usize = 0;
@@ -89,8 +90,8 @@ fn plain(answer: u8, left: u64) -> Outcome
 
 // The marks of the first changes alone.
 fn marks_of(marks: [bool; limits::CHANGES], count: usize) -> [bool; limits::CHANGES]
-    requires { ⌜ count ≤ 256 ⌝ }
-    ensures { λ r. ⌜ r ≡ pad 256 false (take count marks) ⌝ }
+    requires { ⌜ count ≤ mostChanges ⌝ }
+    ensures { λ r. ⌜ r ≡ pad mostChanges false (take count marks) ⌝ }
 {
     let mut out = [false; limits::CHANGES];
     let mut i: usize = 0;
@@ -103,7 +104,7 @@ fn marks_of(marks: [bool; limits::CHANGES], count: usize) -> [bool; limits::CHAN
 
 // A verdict that is not fine, told of a line of traffic.
 fn told(found: Located, line: Line, count: usize) -> Outcome
-    requires { ⌜ count ≤ 256 ⌝ }
+    requires { ⌜ count ≤ mostChanges ⌝ }
     ensures { λ r. ⌜ r ≡ toldOf found line count ⌝ }
 {
     let ruling = found.ruling;
@@ -133,7 +134,7 @@ fn each_line(
     traffic: &[u32; LINED],
     lines: usize,
 ) -> Outcome
-    requires { ⌜ (count ≤ 256) × (linked ≤ 256) × (lines ≤ 64) ⌝ }
+    requires { ⌜ (count ≤ mostChanges) × (linked ≤ mostLinks) × (lines ≤ mostLines) ⌝ }
     ensures { λ r. ⌜ r
         ≡ outcomeOf (aimed aim (changesIn (now (changes .entry)) count) settled
         (networkIn (now (links .entry)) linked (now (traffic .entry)) lines) budget) ⌝ }
@@ -186,7 +187,8 @@ pub fn check(
     lines: usize,
 ) -> Outcome
     ensures { λ r. ⌜ r
-        ≡ checkedOf aim settled budget (now (changes .entry)) count (now (links .entry)) linked (now (traffic .entry)) lines ⌝ }
+        ≡ checkedOf aim settled budget (now (changes .entry)) count (now (links .entry)) linked (now (traffic .entry))
+        lines ⌝ }
 {
     if limits::CHANGES < count {
         return plain(verdicts::NO_NETWORK, 0);

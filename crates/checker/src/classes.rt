@@ -10,6 +10,7 @@ ghost use Rattle.flow.specs.Lookups as lookups;
 ghost use Rattle.isolation.specs.Check.{inTurn, addresses};
 ghost use Rattle.checker.specs.Layout.{changesIn, networkFor, trafficOf, boundsFor};
 ghost use Rattle.checker.specs.Verdicts.{verdictIn, locatedIn, aimedAt};
+ghost use Rattle.checker.specs.Layout.{mostChanges, mostLinks};
 use crate::Aim;
 use crate::CHANGED;
 use crate::LINKED;
@@ -26,7 +27,7 @@ use crate::verdicts;
 
 // A bound by its place: first where the client's prefix begins, then where the prefix of each change begins and ends.
 fn bound_at(changes: &[u32; CHANGED], q: Quest, i: usize) -> u64
-    requires { ⌜ (i ≤ 2 * q .count) × (q .count ≤ 256) ⌝ }
+    requires { ⌜ (i ≤ 2 * q .count) × (q .count ≤ mostChanges) ⌝ }
     ensures { λ r. ⌜ r ≡ getD (boundsFor (now (changes .entry)) q) i 0 ⌝ }
 {
     if i == 0 {
@@ -43,7 +44,7 @@ fn bound_at(changes: &[u32; CHANGED], q: Quest, i: usize) -> u64
 
 // Whether an address is among the bounds from a place on.
 fn comes_again(changes: &[u32; CHANGED], q: Quest, address: u64, from: usize) -> bool
-    requires { ⌜ q .count ≤ 256 ⌝ }
+    requires { ⌜ q .count ≤ mostChanges ⌝ }
     ensures { λ r. ⌜ r ≡ isAmong address (drop from (boundsFor (now (changes .entry)) q)) ⌝ }
 {
     let mut i: usize = from;
@@ -58,9 +59,10 @@ fn comes_again(changes: &[u32; CHANGED], q: Quest, address: u64, from: usize) ->
 
 // Whether the bound at a place is asked about: the client's prefix covers it, and it does not come again.
 fn is_asked(changes: &[u32; CHANGED], q: Quest, i: usize, address: u64) -> bool
-    requires { ⌜ (i ≤ 2 * q .count) × (q .count ≤ 256) ⌝ }
+    requires { ⌜ (i ≤ 2 * q .count) × (q .count ≤ mostChanges) ⌝ }
     ensures { λ r. ⌜ r
-        ≡ lookups.covers (q .prefix, q .length) address && not (isAmong address (drop (i + 1) (boundsFor (now (changes .entry)) q))) ⌝ }
+        ≡ lookups.covers (q .prefix, q .length) address
+        && not (isAmong address (drop (i + 1) (boundsFor (now (changes .entry)) q))) ⌝ }
 {
     if does_cover(q.prefix, q.length, address) {
         !comes_again(changes, q, address, i + 1)
@@ -78,9 +80,10 @@ fn ask(
     address: u64,
     budget: u64,
 ) -> Ruling
-    requires { ⌜ (q .count ≤ 256) × (q .linked ≤ 256) ⌝ }
+    requires { ⌜ (q .count ≤ mostChanges) × (q .linked ≤ mostLinks) ⌝ }
     ensures { λ r. ⌜ verdictIn q address r
-        ≡ aimedAt aim (q .losing) (changesIn (now (changes .entry)) (q .count)) (q .settled) (networkFor (now (links .entry)) q)
+        ≡ aimedAt aim (q .losing) (changesIn (now (changes .entry)) (q .count)) (q .settled)
+        (networkFor (now (links .entry)) q)
         (trafficOf q) address budget ⌝ }
 {
     match aim {
@@ -114,7 +117,7 @@ pub(crate) fn ask_all(
     q: Quest,
     budget: u64,
 ) -> Located
-    requires { ⌜ (q .count ≤ 256) × (q .linked ≤ 256) ⌝ }
+    requires { ⌜ (q .count ≤ mostChanges) × (q .linked ≤ mostLinks) ⌝ }
     ensures { λ r. ⌜ locatedIn q r
         ≡ inTurn (λ address b. aimedAt aim (q .losing) (changesIn (now (changes .entry)) (q .count)) (q .settled)
         (networkFor (now (links .entry)) q) (trafficOf q) address b)

@@ -11,6 +11,7 @@ ghost use Rattle.isolation.specs.Check.{covering, wantedAfter};
 ghost use Rattle.checker.specs.Layout.{changeAt, changesIn, networkFor, trafficOf};
 ghost use Rattle.checker.specs.Marks.{madeIn};
 ghost use Rattle.checker.specs.Verdicts.{endOf, wantedBy, blamed, verdictIn};
+ghost use Rattle.checker.specs.Layout.{mostChanges, mostLinks};
 use crate::CHANGED;
 use crate::Ending;
 use crate::LINKED;
@@ -43,7 +44,7 @@ fn tested(
     address: u64,
     budget: u64,
 ) -> Ruling
-    requires { ⌜ (q .count ≤ 256) × (q .linked ≤ 256) ⌝ }
+    requires { ⌜ (q .count ≤ mostChanges) × (q .linked ≤ mostLinks) ⌝ }
     ensures { λ r. ⌜ verdictIn q address r
         ≡ checks.tested (wantedAfter (changesIn (now (changes .entry)) (q .count)) (wantedBy (q .losing)) (q .settled)
         (networkFor (now (links .entry)) q) (trafficOf q)
@@ -63,8 +64,9 @@ fn tested(
 
 // Whether the change at place k may stay unmade: it covers the address, and is not one of those known to be made.
 fn may_wait(changes: &[u32; CHANGED], q: Quest, address: u64, k: usize) -> bool
-    requires { ⌜ k < 256 ⌝ }
-    ensures { λ r. ⌜ r ≡ lookups.covers (ruleKey (changeAt (now (changes .entry)) k .rule)) address && ltb (q .settled) (k + 1) ⌝ }
+    requires { ⌜ k < mostChanges ⌝ }
+    ensures { λ r. ⌜ r
+        ≡ lookups.covers (ruleKey (changeAt (now (changes .entry)) k .rule)) address && ltb (q .settled) (k + 1) ⌝ }
 {
     if is_covering(changes, k, address) {
         q.settled < k + 1
@@ -83,7 +85,7 @@ pub(crate) fn explore(
     k: usize,
     budget: u64,
 ) -> Ruling
-    requires { ⌜ (k ≤ q .count) × (q .count ≤ 256) × (q .linked ≤ 256) ⌝ }
+    requires { ⌜ (k ≤ q .count) × (q .count ≤ mostChanges) × (q .linked ≤ mostLinks) ⌝ }
     ensures { λ r. ⌜ verdictIn q address r
         ≡ checks.explore (changesIn (now (changes .entry)) (q .count))
         (covering (changesIn (now (changes .entry)) (q .count)) address)

@@ -12,6 +12,8 @@ ghost use Rattle.checker.specs.Layout.{changesIn, linksIn, networkFor, t
 ghost use Rattle.checker.specs.Marks.{marked, risingIn, risingFrom};
 ghost use Rattle.checker.specs.Trials.{trialAt, noneLater};
 ghost use Rattle.checker.specs.Verdicts.{blamed, verdictIn};
+ghost use Rattle.checker.specs.Layout.{mostChanges, mostLinks};
+ghost use Rattle.answer.specs.Limits.{switchCount};
 use crate::CHANGED;
 use crate::LINKED;
 use crate::Onward;
@@ -32,9 +34,10 @@ fn is_needed(
     count: usize,
     j: usize,
 ) -> bool
-    requires { ⌜ (j < count) × (count ≤ 256) ⌝ }
+    requires { ⌜ (j < count) × (count ≤ mostChanges) ⌝ }
     ensures { λ r. ⌜ r
-        ≡ isNeeded (changesIn (now (changes .entry)) count) (j + 1) (risingFrom (now (marks .entry)) (j + 1) (count - (j + 1))) ⌝ }
+        ≡ isNeeded (changesIn (now (changes .entry)) count) (j + 1)
+        (risingFrom (now (marks .entry)) (j + 1) (count - (j + 1))) ⌝ }
 {
     let mut i: usize = j + 1;
     while i < count {
@@ -54,7 +57,7 @@ fn with_needs(
     marks: [bool; limits::CHANGES],
     count: usize,
 ) -> [bool; limits::CHANGES]
-    requires { ⌜ count ≤ 256 ⌝ }
+    requires { ⌜ count ≤ mostChanges ⌝ }
     ensures { λ r. ⌜ risingIn r count
         ≡ withNeeds (changesIn (now (changes .entry)) count) (marked marks) count [] ⌝ }
 {
@@ -78,8 +81,9 @@ fn known_at(
     count: usize,
     number: usize,
 ) -> [bool; limits::CHANGES]
-    requires { ⌜ (number ≤ count) × (count ≤ 256) ⌝ }
-    ensures { λ r. ⌜ risingIn r count ≡ knownAt (changesIn (now (changes .entry)) count) (risingIn marks count) number ⌝ }
+    requires { ⌜ (number ≤ count) × (count ≤ mostChanges) ⌝ }
+    ensures { λ r. ⌜ risingIn r count
+        ≡ knownAt (changesIn (now (changes .entry)) count) (risingIn marks count) number ⌝ }
 {
     if number == 0 {
         return marks;
@@ -91,7 +95,7 @@ fn known_at(
 
 // What is known at first: the changes up to a number are made.
 fn known_first(changes: &[u32; CHANGED], count: usize, settled: usize) -> [bool; limits::CHANGES]
-    requires { ⌜ count ≤ 256 ⌝ }
+    requires { ⌜ count ≤ mostChanges ⌝ }
     ensures { λ r. ⌜ risingIn r count
         ≡ withNeeds (changesIn (now (changes .entry)) count) (λ k. leb k settled) count [] ⌝ }
 {
@@ -115,8 +119,9 @@ fn none_later(
     address: u64,
     number: usize,
 ) -> bool
-    requires { ⌜ (number ≤ count) × (count ≤ 256) ⌝ }
-    ensures { λ r. ⌜ r ≡ noneLater (now (changes .entry)) count switch address number (risingIn (now (marks .entry)) count) ⌝ }
+    requires { ⌜ (number ≤ count) × (count ≤ mostChanges) ⌝ }
+    ensures { λ r. ⌜ r
+        ≡ noneLater (now (changes .entry)) count switch address number (risingIn (now (marks .entry)) count) ⌝ }
 {
     let mut i: usize = number;
     while i < count {
@@ -139,10 +144,10 @@ fn can_be_last(
     address: u64,
     number: usize,
 ) -> bool
-    requires { ⌜ (number ≤ count) × (count ≤ 256) ⌝ }
+    requires { ⌜ (number ≤ count) × (count ≤ mostChanges) ⌝ }
     ensures { λ r. ⌜ r
-        ≡ canBeLast (changesIn (now (changes .entry)) count) (covering (changesIn (now (changes .entry)) count) address) switch
-        (risingIn (now (marks .entry)) count) number ⌝ }
+        ≡ canBeLast (changesIn (now (changes .entry)) count) (covering (changesIn (now (changes .entry)) count) address)
+        switch (risingIn (now (marks .entry)) count) number ⌝ }
 {
     if number != 0 {
         if !is_on(changes, number - 1, switch, address) {
@@ -163,10 +168,11 @@ fn tried_at(
     number: usize,
     budget: u64,
 ) -> Trial
-    requires { ⌜ (number ≤ q .count) × (q .count ≤ 256) × (q .linked ≤ 256) ⌝ }
+    requires { ⌜ (number ≤ q .count) × (q .count ≤ mostChanges) × (q .linked ≤ mostLinks) ⌝ }
     ensures { λ r. ⌜ r
-        ≡ trialAt (changesIn (now (changes .entry)) (q .count)) (covering (changesIn (now (changes .entry)) (q .count)) address)
-        (q .client) (linksIn (now (links .entry)) (q .linked)) switch (risingIn (now (marks .entry)) (q .count)) number budget ⌝ }
+        ≡ trialAt (changesIn (now (changes .entry)) (q .count))
+        (covering (changesIn (now (changes .entry)) (q .count)) address) (q .client)
+        (linksIn (now (links .entry)) (q .linked)) switch (risingIn (now (marks .entry)) (q .count)) number budget ⌝ }
 {
     if !can_be_last(changes, marks, q.count, switch, address, number) {
         return Trial::Passes(budget);
@@ -198,7 +204,7 @@ fn flight(
     hops: usize,
     budget: u64,
 ) -> Ruling
-    requires { ⌜ (q .count ≤ 256) × (q .linked ≤ 256) ⌝ }
+    requires { ⌜ (q .count ≤ mostChanges) × (q .linked ≤ mostLinks) ⌝ }
     ensures { λ r. ⌜ verdictIn q address r
         ≡ flights.flight (changesIn (now (changes .entry)) (q .count))
         (covering (changesIn (now (changes .entry)) (q .count)) address) (q .client)
@@ -242,9 +248,9 @@ pub(crate) fn fly(
     address: u64,
     budget: u64,
 ) -> Ruling
-    requires { ⌜ (q .count ≤ 256) × (q .linked ≤ 256) ⌝ }
+    requires { ⌜ (q .count ≤ mostChanges) × (q .linked ≤ mostLinks) ⌝ }
     ensures { λ r. ⌜ verdictIn q address r
-        ≡ flights.flightTo (changesIn (now (changes .entry)) (q .count)) (q .settled) 16
+        ≡ flights.flightTo (changesIn (now (changes .entry)) (q .count)) (q .settled) switchCount
         (networkFor (now (links .entry)) q) (trafficOf q) address budget ⌝ }
 {
     let known = known_first(changes, q.count, q.settled);

@@ -28,7 +28,9 @@ pub const LINK: usize = 4;
 pub const LINE: usize = 4;
 
 // A packet that has met so many switches meets one of them again.
-pub(crate) const HOPS: usize = 16;
+pub(crate) const HOPS: usize = answer::limits::OF_SWITCHES;
+
+pub(crate) const SWITCHES: u32 = answer::limits::SWITCHES as u32;
 
 // The bytes of a decision: switch, serial, cause.
 pub const DECISION: usize = 6;

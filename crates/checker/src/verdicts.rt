@@ -2,6 +2,7 @@
 ghost use mathlib.Core.Path.{_≡_};
 ghost use mathlib.Core.Bool.{false};
 ghost use lib.ListN.{replicate};
+ghost use Rattle.checker.specs.Layout.{mostChanges};
 use crate::Ruling;
 use crate::limits;
 
@@ -15,7 +16,7 @@ pub(crate) const NO_NETWORK: u8 = 3;
 
 // All is fine, with so much left of the budget.
 pub(crate) fn fine(left: u64) -> Ruling
-    ensures { λ r. ⌜ r ≡ record { answer = 0; left = left; made = replicate 256 false } ⌝ }
+    ensures { λ r. ⌜ r ≡ record { answer = 0; left = left; made = replicate mostChanges false } ⌝ }
 {
     Ruling {
         answer: FINE,
@@ -37,7 +38,7 @@ pub(crate) fn fails(marks: [bool; limits::CHANGES]) -> Ruling
 
 // The budget was too small.
 pub(crate) fn undecided() -> Ruling
-    ensures { λ r. ⌜ r ≡ record { answer = 2; left = 0; made = replicate 256 false } ⌝ }
+    ensures { λ r. ⌜ r ≡ record { answer = 2; left = 0; made = replicate mostChanges false } ⌝ }
 {
     Ruling {
         answer: UNDECIDED,

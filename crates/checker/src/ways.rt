@@ -7,6 +7,8 @@ ghost use Rattle.isolation.specs.Check.{longestTo, covering, findsAfter};
 ghost use Rattle.checker.specs.Layout.{changesIn, linksIn, foundOf, behindLink, capped};
 ghost use Rattle.checker.specs.Marks.{madeIn, portsIn};
 ghost use Rattle.checker.specs.Verdicts.{stepOf, endOf};
+ghost use Rattle.checker.specs.Layout.{mostChanges, mostLinks};
+ghost use Rattle.answer.specs.Limits.{switchCount};
 use crate::CHANGED;
 use crate::Ending;
 use crate::LINKED;
@@ -25,7 +27,7 @@ fn ports_of(
     switch: u32,
     address: u64,
 ) -> [u32; 33]
-    requires { ⌜ upto ≤ 256 ⌝ }
+    requires { ⌜ upto ≤ mostChanges ⌝ }
     ensures { λ r. ⌜ r ≡ portsIn (now (changes .entry)) (now (marks .entry)) switch address upto ⌝ }
 {
     let mut ports: [u32; 33] = [0; 33];
@@ -66,7 +68,7 @@ pub(crate) fn finds(
     switch: u32,
     address: u64,
 ) -> u32
-    requires { ⌜ upto ≤ 256 ⌝ }
+    requires { ⌜ upto ≤ mostChanges ⌝ }
     ensures { λ r. ⌜ foundOf r
         ≡ findsAfter (changesIn (now (changes .entry)) upto)
         (covering (changesIn (now (changes .entry)) upto) address) (madeIn (now (marks .entry)) upto) switch ⌝ }
@@ -83,7 +85,7 @@ pub(crate) fn over(
     switch: u32,
     port: u32,
 ) -> Onward
-    requires { ⌜ linked ≤ 256 ⌝ }
+    requires { ⌜ linked ≤ mostLinks ⌝ }
     ensures { λ r. ⌜ stepOf r ≡ traces.over client (linksIn (now (links .entry)) linked) switch port ⌝ }
 {
     let mut i: usize = 0;
@@ -108,7 +110,7 @@ fn behind(far: u32, owner: u32, client: u32) -> Onward
             return Onward::Foreign;
         }
     }
-    if far < 16 {
+    if far < limits::SWITCHES {
         Onward::GoesTo(far)
     } else {
         Onward::Leaves
@@ -123,12 +125,12 @@ pub(crate) fn follow(
     q: Quest,
     address: u64,
 ) -> Ending
-    requires { ⌜ (q .count ≤ 256) × (q .linked ≤ 256) ⌝ }
+    requires { ⌜ (q .count ≤ mostChanges) × (q .linked ≤ mostLinks) ⌝ }
     ensures { λ r. ⌜ endOf r
         ≡ traces.follow (q .client) (linksIn (now (links .entry)) (q .linked))
         (λ (s : ℕ). findsAfter (changesIn (now (changes .entry)) (q .count))
         (covering (changesIn (now (changes .entry)) (q .count)) address)
-        (madeIn (now (marks .entry)) (q .count)) s) 16 (q .entry) ⌝ }
+        (madeIn (now (marks .entry)) (q .count)) s) switchCount (q .entry) ⌝ }
 {
     let mut switch = q.entry;
     let mut hops: usize = 0;

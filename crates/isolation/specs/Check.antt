@@ -7,6 +7,7 @@ use mathlib.Core.List.{List, [], _∷_}
 use lib.Dec.{ltb, eqb}
 use lib.ListN.{length}
 use Rattle.answer.specs.Ask.{pick}
+use Rattle.answer.specs.Limits.{switchCount}
 use Rattle.lists.specs.Counts.{passing}
 use Rattle.lists.specs.Kinds.{isAmong}
 use Rattle.flow.specs.Rules.{ruleKey, blockSize}
@@ -116,7 +117,7 @@ module _ (us : List Undone) where
     -- the packets of one client to one address, once some numbers are made
     abbrev pub wantedAfter : Traffic → (ℕ → Bool) → List ℕ → Bool
     wantedAfter t covered made =
-        wanted t (follow (t .client) (N .links) (λ (s : ℕ). findsAfter covered made s) 16 (t .entry))
+        wanted t (follow (t .client) (N .links) (λ (s : ℕ). findsAfter covered made s) switchCount (t .entry))
 
     abbrev pub checkAddress : Traffic → ℕ → ℕ → Verdict
     checkAddress t address budget =

@@ -4,6 +4,7 @@ use mathlib.Core.Path.{_≡_}
 use mathlib.Core.Bool.{Bool, true}
 use mathlib.Core.List.{List, _++_, List·Memᴰ}
 use Prim.Native.Nat.{ℕ, _≤_}
+use Rattle.answer.specs.Limits.{switchCount}
 use Rattle.lists.specs.Kinds.{isAmong}
 use Rattle.flow.specs.Lookups.{covers, lookupOf}
 use Rattle.flow.specs.Tables.{entriesOf}
@@ -31,7 +32,7 @@ Isolated N tables =
 abbrev pub Wanted : (Traffic → End → Bool) → Network → (ℕ → Table) → Type 0
 Wanted wanted N tables =
     (t : Traffic) → List·Memᴰ t (N .traffic) → (address : ℕ) → covers (t .prefix) address ≡ true
-    → wanted t (wayOf N tables t address 16) ≡ true
+    → wanted t (wayOf N tables t address switchCount) ≡ true
 
 -- all changes up to a number are made
 abbrev pub Settled : Setting → ℕ → Run → Type 0
@@ -56,4 +57,4 @@ pub record Crosses (S : Setting) (settled : ℕ) (N : Network) : Type 0 where
   pub inside : covers (traffic .prefix) address ≡ true
   pub switch : ℕ
   pub port : ℕ
-  pub way : wayOf N (λ s. run (step S) (start S) calls .switches s .table) traffic address 16 ≡ crossed switch port
+  pub way : wayOf N (λ s. run (step S) (start S) calls .switches s .table) traffic address switchCount ≡ crossed switch port

@@ -25,7 +25,8 @@ use Rattle.domain.specs.Calls.{Call, start, step}
 use Rattle.domain.specs.Premises.{Premises}
 use Rattle.domain.specs.Ideals.{changeOf}
 use Rattle.isolation.specs.Networks.{Link, Traffic, Network}
-use Rattle.isolation.specs.Traces.{End, lost, crossed, circling, Step, foreign, leaves, goesTo, over, byStep, byFound}
+use Rattle.isolation.specs.Traces.{End, lost, crossed, circling, Step, foreign, leaves, goesTo, over}
+use Rattle.isolation.specs.Traces.{byStep, byFound}
 use Rattle.isolation.specs.Claim.{Settled}
 use Rattle.isolation.specs.Check.{Failure, Verdict, fine, fails, undecided, inTurn, covering, findsAfter}
 use Rattle.isolation.specs.Check.{eachAddress}
