@@ -32,15 +32,26 @@ rehearsed() {
     ended $? "$1: its rehearsal does not make exactly the changes$2"
 }
 
+# shown PAGE: every line that was printed last stands in a page.
+shown() {
+    while IFS= read -r line; do
+        grep -qxF "$line" "$1" || return 1
+    done <"$work/printed"
+}
+
 # Plans
 
 says 'the far switch first' 0 "no order of arrival takes a result off its lab's links: 13 states checked
 nor one under way while tables change: 8 steps checked
 2 clients, 7 links, 6 changes of 2 decisions
 " $plans/far-first.txt $plans/links.txt
+shown README.md
+ended $? 'README shows other words for the far switch first'
 says 'the near switch first' 6 'packets of A to 10.1.0.0 leave switch 5 by port 2, a link of B, once changes 1 3 4 5 are made
 their way: switch 1 port 2, switch 5 port 2
 ' --rehearsal "$work/shown.txt" --picture "$work/shown.svg" $plans/near-first.txt $plans/links.txt
+shown README.md && shown docs/ISOLATION.md
+ended $? 'README or docs/ISOLATION.md shows other words for the near switch first'
 rehearsed 'the near switch first' ' 1 3 4 5'
 cmp "$work/shown.svg" $plans/near-first.svg
 ended $? "$plans/near-first.svg is not the picture of its plan"
@@ -53,6 +64,8 @@ rehearsed 'two flows' ' 1 3 4 6'
 says 'clean at rest, and not under way' 6 "while all stands still no order of arrival takes a result off its lab's links: 12 states checked
 packets of A to 10.1.0.0 that are under way may leave switch 4 by port 2, a link of B, once changes 1 2 3 4 5 6 are made
 " $plans/under-way.txt $plans/links.txt
+shown docs/ISOLATION.md
+ended $? 'docs/ISOLATION.md shows other words for the move'
 says 'once the move is made' 0 "no order of arrival takes a result off its lab's links: 3 states checked
 nor one under way while tables change: 3 steps checked
 2 clients, 7 links, 6 changes of 2 decisions, those up to 5 made
