@@ -10,7 +10,7 @@ use lib.Dec.{leb}
 use lib.ListN.{length}
 use borrow.Author.Tests.{leb-true}
 use Rattle.answer.specs.Ask.{pick}
-use Rattle.answer.proofs.Bools.{by-bool, and-parts}
+use Rattle.answer.proofs.Bools.{and-parts}
 use Rattle.controller.specs.declared.Undone.{Undone}
 use Rattle.domain.specs.Settings.{Setting, Valid, playbook}
 use Rattle.domain.specs.Claim.{agreed}
@@ -87,12 +87,12 @@ module _ (S : Setting) (v : Valid S) (settled budget : ℕ) (links : List ℕ) (
       let y = yes-fine (aimed Resting (agreed S) settled N budget) (s .verdict) in
       always-isolated S v N (s .network) settled budget (y .0) (y .1)
 
-  -- nor one under way, over 16 switches
-  pub yes-under-way : answerOf Moving ≡ 0 → IsolatedInFlight S settled N 16
+  -- nor one under way, over any number of switches
+  pub yes-under-way : answerOf Moving ≡ 0 → IsolatedInFlight S settled N
   yes-under-way e =
       let s = said Moving 0 (omega arith) e in
       let y = yes-fine (aimed Moving (agreed S) settled N budget) (s .verdict) in
-      isolated-in-flight S v N (s .network) settled 16 budget (y .0) (y .1)
+      isolated-in-flight S v N (s .network) settled budget (y .0) (y .1)
 
   -- and none is lost past its first switch
   pub yes-none-lost : answerOf Losing ≡ 0 → Always S settled (Wanted (λ t. notLostPast (t .entry)) N)

@@ -20,7 +20,7 @@ use Rattle.checker.specs.declared.Located.{Located}
 use Rattle.checker.specs.declared.Outcome.{Outcome}
 
 -- what is asked: of tables that stand still, packets that keep to their client's links, or are not lost past their first
--- switch; of tables that change while a packet is under way, over 16 switches, packets that keep to their client's links
+-- switch; of tables that change while a packet is under way, packets that keep to their client's links
 abbrev pub aimed : Aim → List Undone → ℕ → Network → ℕ → Verdict
 aimed Resting us settled N budget = check us settled N budget
 aimed Losing us settled N budget = checkLost us settled N budget

@@ -133,7 +133,7 @@ module _ (us : List Undone) (numbers : (i : ℕ) → i < length us → getD us i
         (unfold fed in refl) (omega arith) (omega arith)
 
 -- a way that does not keep to links of its client's crosses
-pub crossed-so : (e : End) → keepsOwn e ≡ false → (s : ℕ) × (p : ℕ) × (e ≡ crossed s p)
+crossed-so : (e : End) → keepsOwn e ≡ false → (s : ℕ) × (p : ℕ) × (e ≡ crossed s p)
 crossed-so arrived h = tf refl h
 crossed-so (lost s) h = tf refl h
 crossed-so (crossed s p) h = (s, p, refl)

@@ -1,6 +1,7 @@
--- Packets under way. Where the check of flights says fine, no packet of any client is sent out at a port that its
--- client may not use, each switch that it meets being asked at a later moment of the run than the one before. What is
--- known to be made only grows, and the ports of a switch are those of its last applied number. Assumes nothing.
+-- Packets under way. Where the check of flights over 16 switches says fine, no packet of any client is sent out at a
+-- port that its client may not use, over any number of switches, each of them asked at a later moment of the run than
+-- the one before. What is known to be made only grows, and the ports of a switch are those of its last applied number.
+-- Assumes nothing.
 use mathlib.Core.Path.{_≡_, refl, sym, ap, _∙_, subst}
 use mathlib.Core.Bool.{Bool, true, not, _||_}
 use mathlib.Core.List.{List, [], _∷_, _++_, append-nil, List·Memᴰ, List·Memᴰ·head, List·Memᴰ·tail}
@@ -10,7 +11,6 @@ use lib.Dec.{ltb, leb, eqb}
 use lib.ListN.{length, getD}
 use borrow.Author.Tests.{ltb-true, leb-true, le-leb, eqb-true, eq-eqb}
 use Rattle.answer.proofs.Bools.{by-bool, by-eq, by-or, tf, and-join, and-parts, or-left, or-right}
-use Rattle.lists.specs.Arrays.{every}
 use Rattle.lists.specs.Kinds.{among, isAmong}
 use Rattle.lists.proofs.Members.{among-at}
 use Rattle.lists.proofs.Tails.{every-all}
@@ -29,20 +29,19 @@ use Rattle.domain.specs.Calls.{Call, atSwitch, atController, Done, Run, start, 
 use Rattle.domain.specs.Ideals.{fed}
 use Rattle.domain.specs.Claim.{Made, madeBy, made, numbers, agreed, answered, Safe}
 use Rattle.domain.proofs.Theorem.{agreed-numbered, demand3}
-use Rattle.isolation.specs.Networks.{Link, Network, linkOk, networkOk}
+use Rattle.isolation.specs.Networks.{Link, Network, networkOk}
 use Rattle.isolation.specs.Traces.{lost, crossed, Step, foreign, leaves, goesTo, over, byStep, byFound, follow}
 use Rattle.isolation.specs.Traces.{keepsOwn}
-use Rattle.isolation.specs.Claim.{wayOf, Isolated, Always}
+use Rattle.isolation.specs.Claim.{Isolated, Always}
 use Rattle.isolation.specs.Check.{Failure, Verdict, fine, fails, covering, portsAfter, findsAfter}
 use Rattle.isolation.specs.Flights.{fly, Moments, IsolatedInFlight, downFrom, stepVerdict, foundVerdict, spend}
 use Rattle.isolation.specs.Flights.{withNeeds, knownAt, isOn, canBeLast, downward, flight, flightTo, checkFlights}
 use Rattle.isolation.proofs.Verdicts.{undecided-fine, fails-fine, chosen, turn-fine}
 use Rattle.isolation.proofs.Ported.{lookup-is, longest-same}
-use Rattle.isolation.proofs.Ways.{over-known}
+use Rattle.isolation.proofs.Loops.{inDomain, Leg, out, on, Within, loopless}
 use Rattle.isolation.proofs.Classes.{each-fine}
 use Rattle.isolation.proofs.Lasts.{Last, last, needs-made}
-use Rattle.isolation.proofs.Theorem.{formed, fed-ok, traffic-ok, links-ok, earlier, kept-isolated}
-use Rattle.isolation.proofs.Complete.{crossed-so}
+use Rattle.isolation.proofs.Theorem.{formed, fed-ok, traffic-ok, links-ok, earlier}
 
 -- each number up to n is tried
 down-there : (n k : ℕ) → k ≤ n → List·Memᴰ k (downFrom n)
@@ -56,8 +55,13 @@ spend-fine : (b c : ℕ) (next : ℕ → Verdict) → spend b next ≡ fine c �
 spend-fine zero c next e = undecided-fine c e
 spend-fine (suc b) c next e = (b, e)
 
+-- what was said of a port that is found
+port-found : (x : Found) (p : ℕ) (good : Verdict) (go : ℕ → Verdict) {v : Verdict} → x ≡ Port p
+    → foundVerdict x good go ≡ v → go p ≡ v
+port-found x p good go e h = sym (ap (λ (y : Found). foundVerdict y good go) e) ∙ h
+
 module _ (us : List Undone) (numbered : (i : ℕ) → i < length us → getD us i emptyUndone .number ≡ i + 1)
-    (covered : ℕ → Bool) (c : ℕ) (links : List Link) (blame : List ℕ → Failure) (ok : every linkOk links ≡ true)
+    (covered : ℕ → Bool) (c : ℕ) (links : List Link) (blame : List ℕ → Failure)
     (find : ℕ → ℕ → Found) (made-by : ℕ → List ℕ)
     (may : (i : ℕ) → fed us (made-by i) .refused ≡ [])
     (grows : (i j : ℕ) → isAmong j (made-by i) ≡ true → isAmong j (made-by (suc i)) ≡ true)
@@ -90,46 +94,61 @@ module _ (us : List Undone) (numbered : (i : ℕ) → i < length us → getD us 
       (λ o. or-right (not (isOn us covered s j)) _ (le-leb j m (l .top j there o)))
       (λ o. rw o)))
 
-  -- a packet flown from a switch with what is known then keeps to its client's links
+  -- what is known at a moment is known later
+  stays : (i j k : ℕ) → i ≤ j → isAmong k (made-by i) ≡ true → isAmong k (made-by j) ≡ true
+  stays i zero k l h = let e : i ≡ 0 = omega arith in rw e at h
+  stays i (suc j) k l h = by-eq i (suc j) (λ e. rw e at h) (λ e. grows j k (stays i j k (omega arith) h))
+
+  -- what the check says from a switch, with what is known then
   abbrev checks : ℕ → ℕ → List ℕ → ℕ → Verdict
   checks hops s known b = flight us covered c links blame hops s known b
 
-  flown : (hops i s : ℕ) (known : List ℕ) (b y : ℕ) → s < 16 → checks hops s known b ≡ fine y → Known i known
-      → keepsOwn (fly c links find i hops s) ≡ true
-  unfolding flight fly
-  flown zero i s known b y l e all = refl
-  flown (suc hops) i s known b y l e all =
-      let r = last us numbered covered s (made-by i) (may i) in
+  -- what the check said of the port that a switch finds at a moment, having tried the last number made there by then
+  record Asked (hops j s p : ℕ) (known : List ℕ) : Type 0 where
+    last-one : ℕ
+    spent : ℕ
+    left : ℕ
+    says : stepVerdict (over c links s p) (fails (blame (downward us covered (knownAt us known last-one)))) (fine spent)
+        (λ (t : ℕ). checks hops t (knownAt us known last-one) spent) ≡ fine left
+    all : Known j (knownAt us known last-one)
+
+  asked : (hops j s p : ℕ) (known : List ℕ) (b y : ℕ) → s < 16 → checks (suc hops) s known b ≡ fine y → Known j known
+      → find j s ≡ Port p → Asked hops j s p known
+  unfolding flight
+  asked hops j s p known b y l e all f =
+      let r = last us numbered covered s (made-by j) (may j) in
       let m = r .0 in
       let one = turn-fine _ (downFrom (length us)) b y e m (down-there (length us) m (r .1 .bound)) in
-      let spent = spend-fine (one .0) (one .1) _
-      (chosen (canBeLast us covered s known m) _ _ (can-be-last i s m known all (r .1)) (one .2)) in
-      let is : find i s ≡ findsAfter us covered (upTo m) s =
-      finds i s l ∙ longest-same 32 _ (portsAfter us covered (upTo m) s) (r .1 .ports) in
-      rw is (found (findsAfter us covered (upTo m) s) m (spent .0) (one .1) (spent .1)
-      (λ t d z k q. flown hops (suc i) t (knownAt us known m) d z k q
-      (λ j h. grows i j (known-last i m known all (λ p. r .1 .itself p .0) j h))))
+      let paid = spend-fine (one .0) (one .1) _
+      (chosen (canBeLast us covered s known m) _ _ (can-be-last j s m known all (r .1)) (one .2)) in
+      let is : findsAfter us covered (upTo m) s ≡ Port p =
+      sym (finds j s l ∙ longest-same 32 _ (portsAfter us covered (upTo m) s) (r .1 .ports)) ∙ f in
+      record {
+        last-one = m;
+        spent = paid .0;
+        left = one .1;
+        says = port-found _ p _ _ is (paid .1);
+        all = known-last j m known all (λ q. r .1 .itself q .0);
+      }
+
+  -- where it says fine, no way over so many switches leads to a port that the client may not use
+  flown : (hops i s : ℕ) (known : List ℕ) (b y : ℕ) → checks hops s known b ≡ fine y → Known i known
+      → Within c links find inDomain hops i s → ⊥
+  flown zero i s known b y e all w = w
+  flown (suc hops) i s known b y e all w =
+      go (w .1) (λ j t later d z q k v. flown hops j t later d z q k v)
     where
-      Onward : ℕ → Type 0
-      Onward m = (t d z : ℕ) → t < 16 → checks hops t (knownAt us known m) d ≡ fine z
-          → keepsOwn (fly c links find (suc i) hops t) ≡ true
+      at : (j p : ℕ) → i ≤ j → find j s ≡ Port p → Asked hops j s p known
+      at j p l f = asked hops j s p known b y (ltb-true s 16 (w .0)) e (λ k h. stays i j k l (all k h)) f
 
-      met : (p m d z : ℕ) (x : Step) → over c links s p ≡ x
-          → stepVerdict x (fails (blame (downward us covered (knownAt us known m)))) (fine d)
-          (λ (t : ℕ). checks hops t (knownAt us known m) d) ≡ fine z → Onward m
-          → keepsOwn (byStep x (crossed s p) (λ (t : ℕ). fly c links find (suc i) hops t)) ≡ true
-      met p m d z foreign q h rest = fails-fine (blame (downward us covered (knownAt us known m))) z h
-      met p m d z leaves q h rest = refl
-      met p m d z (goesTo t) q h rest = rest t d z (over-known c links ok s p t q) h
-
-      found : (x : Found) (m d z : ℕ)
-          → foundVerdict x (fine d) (λ (p : ℕ). stepVerdict (over c links s p)
-          (fails (blame (downward us covered (knownAt us known m)))) (fine d)
-          (λ (t : ℕ). checks hops t (knownAt us known m) d)) ≡ fine z → Onward m
-          → keepsOwn (byFound x (lost s) (λ (p : ℕ). byStep (over c links s p) (crossed s p)
-          (λ (t : ℕ). fly c links find (suc i) hops t))) ≡ true
-      found Nothing m d z h rest = refl
-      found (Port p) m d z h rest = met p m d z (over c links s p) refl h rest
+      go : Leg c links find (Within c links find inDomain hops) i s
+          → ((j t : ℕ) (later : List ℕ) (d z : ℕ) → checks hops t later d ≡ fine z → Known j later
+          → Within c links find inDomain hops j t → ⊥) → ⊥
+      go (out j p l f x) rest = let a = at j p l f in fails-fine _ (a .left) (rw x at (a .says))
+      go (on j p t l f x v) rest =
+          let a = at j p l f in
+          rest (suc j) t (knownAt us known (a .last-one)) (a .spent) (a .left) (rw x at (a .says))
+          (λ k h. grows j k (a .all k h)) v
 
 -- what is made stays made
 more-made : (k : ℕ) (new old : List Made) → isAmong k (numbers old) ≡ true → isAmong k (numbers (new ++ old)) ≡ true
@@ -156,21 +175,23 @@ module _ (S : Setting) where
   run-made k r [] h = h
   run-made k r (x ∷ xs) h = run-made k (step S r x) xs (step-made k r x h)
 
-module _ (S : Setting) (v : Valid S) (N : Network) (ok : networkOk N ≡ true) (settled hops budget left : ℕ)
-    (says : checkFlights (agreed S) settled hops N budget ≡ fine left) where
-  -- the theorem of packets under way
-  pub isolated-in-flight : IsolatedInFlight S settled N hops
+module _ (S : Setting) (v : Valid S) (N : Network) (ok : networkOk N ≡ true) (settled budget left : ℕ)
+    (says : checkFlights (agreed S) settled 16 N budget ≡ fine left) where
+  -- the theorem of packets under way, over any number of switches
+  pub isolated-in-flight : IsolatedInFlight S settled N
   unfolding among
-  isolated-in-flight moment M first t m address c s p e =
+  isolated-in-flight moment M first t m address c hops s p e =
       let us = agreed S in
       let own = and-parts (ltb (t .entry) 16) _ (traffic-ok S v N ok t m) in
-      let one = each-fine us (flightTo us settled hops N) (formed S v) N budget left says t m (own .1) address c in
+      let one = each-fine us (flightTo us settled 16 N) (formed S v) N budget left says t m (own .1) address c in
       let covered : ℕ → Bool = covering us (one .tried) in
       let at : ℕ → Run = λ i. run (step S) (start S) (moment i) in
       let safe : (i : ℕ) → Safe S (at i) = λ i. demand3 S v .safe (moment i) (M .within i) in
-      let kept = flown us (agreed-numbered S v) covered (t .client) (N .links)
-      (λ made. record { traffic = t; address = one .tried; made = made }) (links-ok S v N ok)
-      (λ i s. lookupOf address (entriesOf (at i .switches s .table))) (λ i. answered S (at i)) (λ i. safe i .in-order)
+      let entry = ltb-true (t .entry) 16 (own .0) in
+      let find : ℕ → ℕ → Found = λ i s. lookupOf address (entriesOf (at i .switches s .table)) in
+      flown us (agreed-numbered S v) covered (t .client) (N .links)
+      (λ made. record { traffic = t; address = one .tried; made = made }) find (λ i. answered S (at i))
+      (λ i. safe i .in-order)
       (λ i j h.
       let next = M .later i in
       subst (λ (l : List Call). isAmong j (answered S (run (step S) (start S) l)) ≡ true) (sym (next .1))
@@ -179,11 +200,10 @@ module _ (S : Setting) (v : Valid S) (N : Network) (ok : networkOk N ≡ true) (
       (λ i s l.
       ap (λ (x : Table). lookupOf address (entriesOf x)) (safe i .tables s l)
       ∙ lookup-is us address covered (one .alike) (formed S v) (fed-ok S v) (answered S (at i)) (safe i .in-order) s)
-      hops 0 (t .entry) (withNeeds us (λ j. leb j settled) (length us) []) (one .budget) (one .left)
-      (ltb-true (t .entry) 16 (own .0)) (one .says)
+      16 0 (t .entry) (withNeeds us (λ j. leb j settled) (length us) []) (one .budget) (one .left) (one .says)
       (needs-made us (agreed-numbered S v) (answered S (at 0)) (safe 0 .in-order) (λ j. leb j settled)
-      (λ k low h. first k low (leb-true k settled h)) (length us) (omega arith) [] (λ k h. tf h refl)) in
-      tf kept (ap keepsOwn e)
+      (λ k low h. first k low (leb-true k settled h)) (length us) (omega arith) [] (λ k h. tf h refl))
+      (loopless (t .client) (N .links) find (links-ok S v N ok) hops 0 (t .entry) entry (ap keepsOwn e))
 
 -- asked at one moment, the switches give the way over the tables of that moment
 fly-still : (c : ℕ) (links : List Link) (find : ℕ → Found) (i hops s : ℕ)
@@ -207,17 +227,13 @@ fly-still c links find i (suc hops) s = found (find s) (λ t. fly-still c links 
     found Nothing rest = refl
     found (Port p) rest = met p (over c links s p) rest
 
--- so the check of flights over 16 switches does for packets at rest too, over any number of switches
+-- so the check of flights does for packets at rest too
 pub flights-isolate : (S : Setting) (v : Valid S) (N : Network) → networkOk N ≡ true → (settled budget left : ℕ)
     → checkFlights (agreed S) settled 16 N budget ≡ fine left → Always S settled (Isolated N)
 flights-isolate S v N ok settled budget left says before rest p all =
     let tables : ℕ → Table = λ s. run (step S) (start S) before .switches s .table in
     let still : Moments S (λ i. before) =
     record { within = λ i. earlier S v before rest p; later = λ i. ([], sym (append-nil before)) } in
-    kept-isolated S v N ok tables
-    (λ t m address c.
-    by-bool (keepsOwn (wayOf N tables t address 16)) (λ e. e)
-    (λ e.
-    let x = crossed-so (wayOf N tables t address 16) e in
-    absurd (isolated-in-flight S v N ok settled 16 budget left says (λ i. before) still all t m address c (x .0) (x .1)
-    (fly-still (t .client) (N .links) (λ s. lookupOf address (entriesOf (tables s))) 0 16 (t .entry) ∙ x .2))))
+    λ t m address c hops s p e.
+    isolated-in-flight S v N ok settled budget left says (λ i. before) still all t m address c hops s p
+    (fly-still (t .client) (N .links) (λ s. lookupOf address (entriesOf (tables s))) 0 hops (t .entry) ∙ e)

@@ -6,6 +6,7 @@ pub mod Falling
 pub mod Explored
 pub mod Ported
 pub mod Ways
+pub mod Loops
 pub mod Classes
 pub mod Theorem
 pub mod Complete

@@ -147,7 +147,7 @@ module _ (S : Setting) (v : Valid S) where
           (λ k low high. falling-among k _ ∙ all k low high) _ (safe .tables-by-number)
 
     -- to keep to its client's links for 16 switches is to keep to them for good
-    pub kept-isolated : (tables : ℕ → Table) → Wanted (λ t. keepsOwn) N tables → Isolated N tables
+    kept-isolated : (tables : ℕ → Table) → Wanted (λ t. keepsOwn) N tables → Isolated N tables
     kept-isolated tables kept t m address c hops s p e =
         let own = and-parts (ltb (t .entry) 16) _ (traffic-ok t m) in
         let crosses : not (keepsOwn (wayOf N tables t address hops)) ≡ true =

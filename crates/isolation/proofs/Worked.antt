@@ -47,7 +47,7 @@ evening-isolated =
     always-isolated evening valid network known 0 10 7
     (ap (λ (us : List Undone). check us 0 network 10) agreed-are ∙ checked)
 
-pub evening-under-way : IsolatedInFlight evening 0 network 16
+pub evening-under-way : IsolatedInFlight evening 0 network
 evening-under-way =
-    isolated-in-flight evening valid network known 0 16 10 7
+    isolated-in-flight evening valid network known 0 10 7
     (ap (λ (us : List Undone). checkFlights us 0 16 network 10) agreed-are ∙ flown)

@@ -43,12 +43,12 @@ pub record Moments (S : Setting) (moment : ℕ → List Call) : Type 0 where
   pub within : (i : ℕ) → Premises S (moment i)
   pub later : (i : ℕ) → (more : List Call) × (moment (suc i) ≡ moment i ++ more)
 
--- no packet under way over so many switches is sent out at a port that its client may not use, where the changes up to a
--- number are made when it comes in
-abbrev pub IsolatedInFlight : Setting → ℕ → Network → ℕ → Type 0
-IsolatedInFlight S settled N hops =
+-- no packet under way, over any number of switches, is sent out at a port that its client may not use, where the
+-- changes up to a number are made when it comes in
+abbrev pub IsolatedInFlight : Setting → ℕ → Network → Type 0
+IsolatedInFlight S settled N =
     (moment : ℕ → List Call) → Moments S moment → Settled S settled (run (step S) (start S) (moment 0))
-    → (t : Traffic) → List·Memᴰ t (N .traffic) → (address : ℕ) → covers (t .prefix) address ≡ true → (s p : ℕ)
+    → (t : Traffic) → List·Memᴰ t (N .traffic) → (address : ℕ) → covers (t .prefix) address ≡ true → (hops s p : ℕ)
     → fly (t .client) (N .links)
     (λ i s. lookupOf address (entriesOf (run (step S) (start S) (moment i) .switches s .table))) 0 hops (t .entry)
     ≡ crossed s p → ⊥
