@@ -1,6 +1,7 @@
 #!/bin/sh
-# bin/isolation on plans and links: what it says and its status, the rehearsal of each no, the picture, and bad input. The
-# sentences below are written by hand from the plans.
+# bin/isolation on plans and links: what it says and its status, the rehearsal of each no at rest, the picture, and bad
+# input. The sentences follow from the plans. Counts of states and steps for far-first and under-way are those of the laws
+# in isolation/proofs/Evenings.antt, but for the 3 states once the move is made: two for A and one for B.
 set -u
 script=isolation.sh
 . tests/counting
