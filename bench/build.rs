@@ -1,7 +1,7 @@
-//! Links the static library that `rt staticlib timed` writes.
+//! Links the static library that `rt lib` writes in crates/timed.
 
 fn main() {
-    let folder = concat!(env!("CARGO_MANIFEST_DIR"), "/../target/staticlib");
+    let folder = concat!(env!("CARGO_MANIFEST_DIR"), "/../crates/timed/out");
     println!("cargo:rustc-link-search=native={folder}");
     println!("cargo:rustc-link-lib=static=timed");
     println!("cargo:rerun-if-changed={folder}/libtimed.a");

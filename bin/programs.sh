@@ -90,7 +90,7 @@ crates_of() {
             print name
         }
         { sub(/#.*/, "") }
-        split($0, half, ":") == 2 { gsub(/[ \t]/, "", half[1]); parts[half[1]] = half[2] }
+        split($0, half, ":") == 2 { split(half[1], word, " "); parts[word[1]] = half[2] }
         END {
             count = split(programs, asked, " ")
             for (i = 1; i <= count; i++) add(asked[i])
@@ -112,14 +112,14 @@ older() {
     return 1
 }
 
-# built PROGRAM: whether it is there, and as new as everything that it is made of.
+# built PROGRAM: whether it is there, and as new as everything that it is made of. rt puts it beside its sources.
 built() {
     # shellcheck disable=SC2046
-    [ -x "$root/target/bin/$1" ] && ! older "$root/target/bin/$1" $(crates_of "$1")
+    [ -x "$root/crates/$1/out/$1" ] && ! older "$root/crates/$1/out/$1" $(crates_of "$1")
 }
 
-# ready PROGRAM..: proves and builds those that are not built, in one run of rt, which proves crates side by side.
-# `wanted` has all programs that this run may come to.
+# ready PROGRAM..: proves and builds those that are not built, by a run of rt for each, which proves the crates below it
+# first. `wanted` has all programs that this run may come to.
 ready() {
     missing=
     for program; do
@@ -130,22 +130,20 @@ ready() {
     set -- $missing
     command -v rt >/dev/null ||
         fail 2 'no rt command: it is the Rattle kit, prover and compiler in one, and nothing can be built without it'
-    for folder in "$root/target" "$root/target/bin" "$root/target/log" "$root/target/rlib" "$root/target/stamp"; do
+    for crate in $(crates_of "$@"); do
+        folder=$root/crates/$crate/out
         if ! mkdir -p "$folder" 2>/dev/null || [ ! -w "$folder" ]; then
-            fail 1 "target/bin/$1 must be built, and $folder cannot be written"
+            fail 1 "crates/$1/out/$1 must be built, and $folder cannot be written"
         fi
     done
-    # rt takes a program with a stamp as built.
-    for program; do
-        [ -x "$root/target/bin/$program" ] || rm -f "$root/target/stamp/$program"
-    done
     [ -e "$work/due" ] || announce
-    : >"$work/started"
-    prove "$@" || unbuilt "$*"
-    # rt does not build again what has not changed. A file that changed while rt ran stays newer than the program.
     for program; do
-        [ -x "$root/target/bin/$program" ] || unbuilt "$program"
-        touch -r "$work/started" "$root/target/bin/$program"
+        : >"$work/started"
+        prove "$program" || unbuilt "$program"
+        # rt does not build again what has not changed. A file that changed while rt ran stays newer than what was built.
+        for crate in $(crates_of "$program"); do
+            touch -c -r "$work/started" "$(made_of "$crate")"
+        done
     done
 }
 
@@ -155,14 +153,24 @@ unbuilt() {
     fail 1 "could not be built: $1"
 }
 
+# made_of CRATE: the file that shows whether the crate was proved since it changed.
+made_of() {
+    if [ -e "$root/crates/$1/src/main.rt" ]; then
+        echo "$root/crates/$1/out/$1"
+    else
+        echo "$root/crates/$1/out/rlib/stamp"
+    fi
+}
+
 # announce: says before the first proof how much there is to prove; `due` has these crates, a line each.
 announce() {
     # shellcheck disable=SC2046,SC2086
     for each in $(crates_of $wanted); do
-        ! older "$root/target/stamp/$each" $(crates_of "$each") || echo "$each"
+        ! older "$(made_of "$each")" $(crates_of "$each") || echo "$each"
     done >"$work/due"
     : >"$work/proved"
     began=$(date +%s)
+    ended_last=$began
     tell_pace
     meanwhile=
     [ "$command" != rehearse ] || [ -n "$only" ] || meanwhile='; examples/second-evening.explained.txt shows what will come'
@@ -173,7 +181,7 @@ announce() {
 
 # tell_pace: how many of the crates are proved (`count`, `of`), and how long the others will take (`still`). It scales
 # the figures of measured.txt by the time that the crates so far took, as if a minute of proofs had gone before them at
-# the usual pace: 0.7, for rt proves some crates side by side.
+# the usual pace.
 tell_pace() {
     pace=$(awk -v elapsed=$(($(date +%s) - began)) '
         function seconds(name) { return name in measured ? measured[name] : sum / known }
@@ -187,7 +195,7 @@ tell_pace() {
                 if (name in proved) count++
                 else ahead += seconds(name)
             }
-            left = ahead * (elapsed + 60 * 0.7) / (behind + 60)
+            left = ahead * (elapsed + 60) / (behind + 60)
             if (left < 90) about = int(left / 10 + 1) * 10 " seconds"
             else about = int((left + 30) / 60) " minutes"
             print count + 0, of + 0, "about " about
@@ -198,36 +206,31 @@ tell_pace() {
     still=${pace#* }
 }
 
-# tell_crate LINE: tells of the crate that this line of rt says is proved: on a terminal over the last such line.
+# tell_crate CRATE: tells that this crate is proved: on a terminal over the last such line. Those below it are, too: rt
+# is silent about what was proved before.
 tell_crate() {
-    crate=${1#rt: }
-    crate=${crate%% *}
-    took=${1##*(}
-    took=${took% s)}
-    case $took in
-    *[!0-9]*)
-        # It was proved before.
-        echo "$crate" >>"$work/proved"
-        return
-        ;;
-    esac
-    echo "$crate $took" >>"$work/proved"
+    took=$(($(date +%s) - ended_last))
+    ended_last=$((ended_last + took))
+    crates_of "$1" | sed '$d' >>"$work/proved"
+    echo "$1 $took" >>"$work/proved"
     tell_pace
-    told="bin/$command: $crate proved ($took s), $count of $of"
+    told="bin/$command: $1 proved ($took s), $count of $of"
     [ "$count" -eq "$of" ] || told="$told; $still still"
     if [ -t 2 ]; then printf '\r%-79s' "$told" >&2; else say "$told"; fi
 }
 
-# prove PROGRAM..: runs rt, and tells of each crate within a second of what rt prints; `said` has all of it.
+# prove PROGRAM: runs rt, and tells of each crate within a second of what rt prints; `said` has all of it. When all is
+# proved and built, rt runs the program, on no input; what that gives is of no interest.
 prove() {
     : >"$work/said"
     (
-        cd "$root" || exit 2
-        ! command -v setsid >/dev/null || exec setsid rt check "$@"
-        exec rt check "$@"
+        cd "$root/crates/$1" || exit 2
+        ! command -v setsid >/dev/null || exec setsid rt run
+        exec rt run
     ) >>"$work/said" 2>&1 </dev/null &
     proving=$!
     part=
+    crate=
     running=yes
     exec 3<"$work/said"
     while [ -n "$running" ]; do
@@ -238,16 +241,19 @@ prove() {
             line=$part$line
             part=
             case $line in
-            'rt: '*' proved ('*) tell_crate "$line" ;;
+            'crate '*': modules '*)
+                crate=${line#crate }
+                crate=${crate%%:*}
+                ;;
+            'logic=proved '*) tell_crate "$crate" ;;
             esac
         done
     done
     exec 3<&-
     [ ! -t 2 ] || echo >&2
     wait "$proving"
-    ended=$?
     proving=
-    return $ended
+    grep -q "^rt: running out/$1;" "$work/said" && [ -x "$root/crates/$1/out/$1" ]
 }
 
 # Running
@@ -255,21 +261,21 @@ prove() {
 # run PROGRAM INPUT: the program on a file of this run. PROGRAM.out has what it prints. `said` has what it says on
 # standard error, which must not be lost where the run's folder is full.
 run() {
-    { said=$("$root/target/bin/$1" <"$work/$2" 2>&1 >"$work/$1.out"); } 2>/dev/null
+    { said=$("$root/crates/$1/out/$1" <"$work/$2" 2>&1 >"$work/$1.out"); } 2>/dev/null
     ended=$?
     [ $ended -ne 0 ] || return 0
-    [ $ended -gt 128 ] || fail "${crash:-6}" "target/bin/$1 ended with status $ended"
+    [ $ended -gt 128 ] || fail "${crash:-6}" "crates/$1/out/$1 ended with status $ended"
     needs=
     if [ $ended -eq 139 ]; then
         needs=$(awk -v name="$1" '$1 == name && NF > 2 { print "; it needs " $3 " MB of stack (ulimit -s)" }' \
             "$root/bin/measured.txt")
     fi
-    fail "${crash:-6}" "target/bin/$1 was ended by signal $((ended - 128))$needs"
+    fail "${crash:-6}" "crates/$1/out/$1 was ended by signal $((ended - 128))$needs"
 }
 
 # silent PROGRAM: a program that said something could not write all that it had to.
 silent() {
-    [ -z "$said" ] || fail 5 "target/bin/$1: $said"
+    [ -z "$said" ] || fail 5 "crates/$1/out/$1: $said"
 }
 
 # readable FILE: refuses what cannot be read; - is standard input.
@@ -362,7 +368,7 @@ surveyed() {
     silent survey
     read -r answer at <"$work/survey.out"
     case $answer,$at in
-    *[!0-9,]* | ,* | *,) fail "${crash:-6}" 'target/bin/survey printed no two numbers' ;;
+    *[!0-9,]* | ,* | *,) fail "${crash:-6}" 'crates/survey/out/survey printed no two numbers' ;;
     esac
 }
 

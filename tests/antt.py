@@ -20,10 +20,11 @@ ENDS = {")", "}", ";", ",", "=", ":", "in", ".", None}
 
 
 class Tree:
-    """The trees of a run of tokens."""
+    """The trees of a run of tokens. `files` are the short names of whole files: a name of such a file is one name, and
+    any other name with points is a record with its fields."""
 
-    def __init__(self, text):
-        self.tokens, self.at = TOKEN.findall(text), 0
+    def __init__(self, text, files=()):
+        self.tokens, self.at, self.files = TOKEN.findall(text), 0, files
 
     def next(self):
         return self.tokens[self.at] if self.at < len(self.tokens) else None
@@ -85,18 +86,28 @@ class Tree:
     def applied(self):
         head, arguments = self.atom(), ()
         while self.next() not in ENDS and self.next() not in TIGHT:
-            if self.next().startswith("."):
-                field = self.take()[1:]
-                head, arguments = ("part", ("apply", head, arguments) if arguments else head, field), ()
-            else:
-                argument = self.atom()
-                if argument[0] == "binder" and head[0] == "binder":
-                    head = ("binder", head[1] + argument[1], ("pair", (head[2], argument[2])))
-                elif argument != ("implicit",):
-                    arguments += (argument,)
+            argument = self.atom()
+            if argument[0] == "binder" and head[0] == "binder":
+                head = ("binder", head[1] + argument[1], ("pair", (head[2], argument[2])))
+            elif argument != ("implicit",):
+                arguments += (argument,)
         return ("apply", head, arguments) if arguments else head
 
     def atom(self):
+        tree = self.bare()
+        while self.next() not in ENDS and self.next().startswith("."):
+            tree = ("part", tree, self.take()[1:])
+        return tree
+
+    def named(self, token):
+        """A name, and the fields that are taken of it."""
+        name, *fields = token.split(".")
+        tree = ("name", ".".join([name, fields.pop(0)]) if fields and name in self.files else name)
+        for field in fields:
+            tree = ("part", tree, field)
+        return tree
+
+    def bare(self):
         token = self.take()
         if token == "record":
             self.take("{")
@@ -116,7 +127,7 @@ class Tree:
             return self.function()
         if token[0].isdigit():
             return ("number", int(token.replace("_", ""), 0))
-        return ("name", token)
+        return self.named(token)
 
     def inside(self, end):
         start, names = self.at, self.names()
@@ -157,8 +168,8 @@ class Definition:
     """A definition of a value with its clauses (patterns, body), a record, a data type, or the line of a module.
     `types` are the types in it, `parts` a record's fields or a data type's cases, `binders` its parameters."""
 
-    def __init__(self, path, lines, module):
-        self.path, self.module, self.lines = path, module, len(lines)
+    def __init__(self, path, lines, module, files=()):
+        self.path, self.module, self.lines, self.files = path, module, len(lines), files
         self.types, self.parts, self.clauses, self.binders = [], [], [], ()
         head, *rest = [block for block in blocks(lines) if not block.lstrip().startswith("infix")]
         typed = re.match(r"\s*(?:(module) _|pub (record|data) (\S+))(.*?)\bwhere\b(.*)", head, re.DOTALL)
@@ -168,13 +179,13 @@ class Definition:
             for field in blocks([line for line in typed.group(5).split("\n") if line.strip()]):
                 name, _, type = field.partition(":")
                 self.parts.append(name.split()[-1])
-                self.types.append(Tree(type).whole())
+                self.types.append(Tree(type, files).whole())
         else:
             self.kind, signature = "value", re.match(r"\s*(?:abbrev |unfoldable )?(?:pub )?(\S+) :", head)
             self.name = signature.group(1)
-            self.types.append(Tree(head[signature.end():]).whole())
+            self.types.append(Tree(head[signature.end():], files).whole())
             for clause in rest:
-                tree = Tree(clause)
+                tree = Tree(clause, files)
                 left = tree.tree()
                 tree.take("=")
                 patterns = {"infix": left[2:], "apply": left[-1]}.get(left[0], ())
@@ -182,7 +193,7 @@ class Definition:
 
     def heading(self, text):
         """The parameters of a module, a record or a data type, and the type after them."""
-        tree, binders = Tree(text), []
+        tree, binders = Tree(text, self.files), []
         while tree.next() in ("(", "{"):
             end = {"(": ")", "{": "}"}[tree.take()]
             names = tree.names()
@@ -242,11 +253,11 @@ class File:
                     found.append((modules[-1] if modules else None, [bare]))
             else:
                 found[-1][1].append(bare)
-        self.definitions += [Definition(path, block, module) for module, block in found]
+        self.definitions += [Definition(path, block, module, self.uses.files) for module, block in found]
 
     def nested(self, modules, line):
         """A module's line; its parameters are those of the modules around it and its own."""
-        module = Definition(self.path, [line], None)
+        module = Definition(self.path, [line], None, self.uses.files)
         module.binders = (modules[-1].binders if modules else ()) + module.binders
         self.definitions.append(module)
         return module
@@ -274,13 +285,13 @@ def free(tree, bound):
 
 def spec_of(path):
     """The file that a path of a `use` line means, or none where it is of a library or of the code's types."""
-    found = re.match(r"Rattle·(\w+)(?:·specs)?\.specs\.(?!declared)(\w+)$", path)
+    found = re.match(r"Rattle\.(?!std\.)(\w+)\.specs\.(?!declared)(\w+)$", path)
     return "crates/%s/specs/%s.antt" % found.groups() if found else None
 
 
 def declared(path):
     """The crate and the type where a path means a type that the code declares."""
-    found = re.match(r"Rattle·(\w+)(?:·specs)?\.specs\.declared\.(?:\w+\.)*?(\w+)(?:\.the-variants)?$", path)
+    found = re.match(r"Rattle\.(\w+)\.specs\.declared\.(?:\w+\.)*?(\w+)(?:\.TheVariants)?$", path)
     return found.groups() if found else None
 
 

@@ -23,21 +23,21 @@ from paper import ACKNOWLEDGEMENT, EVENT, FRAME, SHARE, key, share
 
 # Where the definitions stand that are compared; those that they use are run with them.
 WHERE = {
-    "tag/Sha256": "sha256", "tag/Hmac": "hmac", "flow/Tables": "entriesOf", "flow/Lookups": "lookupOf",
-    "message/Reading": "decode numberOf isSealed", "message/Writing": "writeTo",
-    "playbook/Reading": "readFirst readWhole", "playbook/Storing": "storedOk", "playbook/Plans": "planOf",
-    "playbook/Books": "bookOf storeOf noPlans", "playbook/Printing": "bytesOf",
-    "switch/Slots": "quorumOf", "switch/States": "fresh setupOf", "switch/Receiving": "receivedBy",
-    "switch/Raising": "raisedBy nextEvent", "switch/Writing": "eventWritten acknowledgementWritten",
-    "switch/Lookups": "lookedUp", "controller/States": "fresh setupOf", "controller/Receiving": "receivedBy",
-    "controller/Writing": "shareWritten", "controller/Decisions": "decidedBy",
+    "tag/Sha256": "sha256", "tag/Hmac": "hmac", "flow/Tables": "entries_of", "flow/Lookups": "lookup_of",
+    "message/Reading": "decode number_of is_sealed", "message/Writing": "write_to",
+    "playbook/Reading": "read_first read_whole", "playbook/Storing": "stored_ok", "playbook/Plans": "plan_of",
+    "playbook/Books": "book_of store_of no_plans", "playbook/Printing": "bytes_of",
+    "switch/Slots": "quorum_of", "switch/States": "fresh setup_of", "switch/Receiving": "received_by",
+    "switch/Raising": "raised_by next_event", "switch/Writing": "event_written acknowledgement_written",
+    "switch/Lookups": "looked_up", "controller/States": "fresh setup_of", "controller/Receiving": "received_by",
+    "controller/Writing": "share_written", "controller/Decisions": "decided_by",
     "domain/Settings": "playbook", "domain/Calls": "start step", "domain/Premises": "brought taken",
-    "domain/Agreement": "agreedChanges", "domain/Ideals": "fed", "protocol/Orders": "falling",
-    "domain/Claim": "made answered highest numbersAt unmade changesOf", "edges/Asking": "example answerTo",
-    "edges/Table": "table", "edges/Beside": "beside", "witness/Evening": "evening evening-calls answers",
-    "witness/Played": "rounds", "rehearsal/Scripts": "rehearsed", "rehearsal/Storing": "begunOf",
-    "openflow/Writing": "flowModWritten", "openflow/Reading": "numberIn ruleIn",
-    "feed/Rules": "appliedOf rulesIn", "feed/Mods": "modsWritten",
+    "domain/Agreement": "agreed_changes", "domain/Ideals": "fed", "protocol/Orders": "falling",
+    "domain/Claim": "made answered highest numbers_at unmade changes_of", "edges/Asking": "example answer_to",
+    "edges/Table": "table", "edges/Beside": "beside", "witness/Evening": "evening evening_calls answers",
+    "witness/Played": "rounds", "rehearsal/Scripts": "rehearsed", "rehearsal/Storing": "begun_of",
+    "openflow/Writing": "flow_mod_written", "openflow/Reading": "number_in rule_in",
+    "feed/Rules": "applied_of rules_in", "feed/Mods": "mods_written",
 }
 SECRET = tuple(trials.KEY)
 # Of the cases, those that are soon rehearsed: so many bytes, changes in the playbook, and lines.
@@ -80,15 +80,15 @@ def messages(c):
             rule = parts[3]
             port = sum(rule["action"].parts)
             parts = parts[:3] + (rule["prefix"], rule["length"], port)
-        sealed = "sealed" if c.of["message", "isSealed"](SECRET, tuple(s)) else "not sealed"
+        sealed = "sealed" if c.of["message", "is_sealed"](SECRET, tuple(s)) else "not sealed"
         text = "%s answer %d %s" % (" ".join([m.case.lower()] + [str(part) for part in parts]),
-                                    c.of["message", "numberOf"](m), sealed)
+                                    c.of["message", "number_of"](m), sealed)
         c.same("bytes %s at %s" % (s.hex(), end), text, trials.received(end, s))
     for length, offset, fields in trials.writings():
         kind, parts = {1: "Event", 2: "Share", 3: "Acknowledgement", 4: "Refused"}[fields[0]], fields[1:]
         if kind == "Share":
             parts = fields[1:4] + (rule_of(*fields[4:]),)
-        written = c.of["message", "writeTo"](SECRET, Built(kind, parts), (0xEE,) * length, offset)
+        written = c.of["message", "write_to"](SECRET, Built(kind, parts), (0xEE,) * length, offset)
         frame = bytes(written["1"]) + b"\xEE" * (FRAME - length)
         c.same("%s at %d of %d" % (fields, offset, length), "written %d %s" % (written["0"], frame.hex()),
                trials.written(length, offset, fields))
@@ -97,7 +97,7 @@ def messages(c):
 def playbooks(c):
     """Playbooks read, whole and up to their end record, stored, looked up and printed."""
     def outcome(r):
-        book = c.of["playbook", "bookOf"](r["playbook"])
+        book = c.of["playbook", "book_of"](r["playbook"])
         plans = [[q["switch"], q["cause"], q["first"], q["count"]] for q in book["plans"]]
         changes = [(x["flow"], x["switch"], x["rule"]["prefix"], x["rule"]["length"], sum(x["rule"]["action"].parts))
                    for x in book["changes"]]
@@ -106,15 +106,15 @@ def playbooks(c):
     for s in trials.playbooks():
         if len(s) > 1000:
             continue
-        whole = c.of["playbook", "readWhole"](tuple(s))
+        whole = c.of["playbook", "read_whole"](tuple(s))
         c.same("playbook %s" % s.hex(), outcome(whole), trials.read_whole(s))
-        c.same("beginning of %s" % s.hex(), outcome(c.of["playbook", "readFirst"](tuple(s))), trials.read_first(s))
-        c.same("store of %s" % s.hex(), c.of["playbook", "storedOk"](whole["playbook"]), True)
+        c.same("beginning of %s" % s.hex(), outcome(c.of["playbook", "read_first"](tuple(s))), trials.read_first(s))
+        c.same("store of %s" % s.hex(), c.of["playbook", "stored_ok"](whole["playbook"]), True)
         if whole["answer"] == 0:
-            c.same("bytes of %s" % s.hex(), bytes(c.of["playbook", "bytesOf"](whole["playbook"])), s)
+            c.same("bytes of %s" % s.hex(), bytes(c.of["playbook", "bytes_of"](whole["playbook"])), s)
     for switch, cause, s in trials.shows():
-        plans = outcome(c.of["playbook", "readWhole"](tuple(s)))[2]
-        q = c.of["playbook", "planOf"]({"0": switch, "1": cause}, tuple(
+        plans = outcome(c.of["playbook", "read_whole"](tuple(s)))[2]
+        q = c.of["playbook", "plan_of"]({"0": switch, "1": cause}, tuple(
             dict(zip(("switch", "cause", "first", "count"), plan)) for plan in plans))
         found = " finds plan %d %d %d %d" % (q["switch"], q["cause"], q["first"], q["count"])
         c.same("plan %d %d" % (switch, cause), found, trials.shown(switch, cause, s)[-len(found):])
@@ -181,7 +181,7 @@ class Run:
 
     def call(self, end, i, what, parts, answer):
         """A call by the definitions, and what it wrote; the model's answer is there."""
-        self.state = self.of("step", self.setting, self.state, Built("at" + end, (i, Built(what, parts))))
+        self.state = self.of("step", self.setting, self.state, Built("at_" + end.lower(), (i, Built(what, parts))))
         self.log.append((i, what, parts, answer))
         self.c.same("call %d of a run" % len(self.log), self.state["log"][0]["answer"], answer)
         return bytes(self.state["log"][0]["written"])
@@ -208,7 +208,7 @@ class Run:
             self.brought[i].append((d, self.controllers[i].decide(*d)))
             self.call("Controller", i, "manages", (Built("decides", d),), self.brought[i][-1][1])
         elif what < 5:
-            self.wrote("Controller", i, "writesShare", (s, (0xEE,) * SHARE.length, 0),
+            self.wrote("Controller", i, "writes_share", (s, (0xEE,) * SHARE.length, 0),
                        self.controllers[i].write(self.stores["Controller"][i], SHARE.length, s, 0), s)
         elif what < 7:
             name, kind = r.choice((("event", EVENT), ("acknowledgement", ACKNOWLEDGEMENT)))
@@ -234,7 +234,7 @@ class Run:
         same, log, made = self.c.same, self.state["log"], self.of("made", self.state["log"])
         for s, model in enumerate(self.switches):
             same("switch %d" % s, SwitchCalls.text(apply(self.state["switches"], s)), model.show())
-            same("highest made at %d" % s, self.of("highest", self.of("numbersAt", s, made)), model.last)
+            same("highest made at %d" % s, self.of("highest", self.of("numbers_at", s, made)), model.last)
         for i, model in enumerate(self.controllers[:self.STRAY]):
             same("controller %d" % i, ControllerCalls.text(apply(self.state["controllers"], i)), model.show())
             decisions(self.c, i, log, self.brought[i])
@@ -243,7 +243,7 @@ class Run:
         numbers = self.of("answered", self.setting, self.state)
         same("answered", numbers, tuple(number for _, number in one[::-1]))
         changes = self.agreed_changes()
-        agreed = self.of("agreedChanges", self.of("playbook", self.setting), self.setting["agreed"])
+        agreed = self.of("agreed_changes", self.of("playbook", self.setting), self.setting["agreed"])
         told = [(u["number"], u["first"], u["flow"], u["switch"], rule_text(u["rule"])) for u in agreed]
         same("agreed changes", told, [u[:4] + (duties.rule_shown(u[4]),) for u in changes])
         for order in (numbers, self.c.of["protocol", "falling"](numbers)):
@@ -287,7 +287,7 @@ def runs(c):
         c.same("%s falling" % (some,), c.of["protocol", "falling"](some), tuple(sorted(some)[::-1]))
     some = [(r.randrange(2), (r.randrange(16), r.randrange(9), r.randrange(9)), r.choice((0, 12, 22, 23, 24)))
             for _ in range(40)]
-    log = tuple({"call": Built("atController", (i, Built("manages", (Built("decides", d),)))), "answer": answer}
+    log = tuple({"call": Built("at_controller", (i, Built("manages", (Built("decides", d),)))), "answer": answer}
                 for i, d, answer in some[::-1])
     decisions(c, 1, log, [(d, answer) for i, d, answer in some if i == 1])
 
@@ -296,10 +296,10 @@ def examples(c):
     """What definitions themselves write down: the rows of the edges, and the evening; after it full rounds make all."""
     example, evening = c.of["edges", "example"], c.of["witness", "evening"]
     for row in c.of["edges", "table"](example) + c.of["edges", "beside"](example):
-        c.same("edge %r" % row["0"], c.of["edges", "answerTo"](example, row["0"]), row["1"])
+        c.same("edge %r" % row["0"], c.of["edges", "answer_to"](example, row["0"]), row["1"])
     state = c.of["domain", "start"](evening)
-    changes = c.of["domain", "changesOf"](evening, evening["agreed"])
-    for calls, left in ((c.of["witness", "evening-calls"], 1), (None, 0)):
+    changes = c.of["domain", "changes_of"](evening, evening["agreed"])
+    for calls, left in ((c.of["witness", "evening_calls"], 1), (None, 0)):
         for call in calls or c.of["witness", "rounds"](evening, 1, state):
             state = c.of["domain", "step"](evening, state, call)
         if calls:
@@ -324,14 +324,14 @@ def applied(c, name, s, switches):
     """What switches applied in a rehearsal, each rule with its number; their FLOW_MODs, with room for them or one byte
     less."""
     for switch in switches:
-        found = c.of["feed", "appliedOf"](switch, tuple(s))
+        found = c.of["feed", "applied_of"](switch, tuple(s))
         rules = tuple((slot["number"], rule_text(slot["rule"])) for slot in found["rules"][:found["count"]])
         answer, mods = flowmods.applied(bytes([switch]) + s)
         c.same("%s at switch %d" % (name, switch), (found["answer"], rules),
                (answer, tuple((number, duties.rule_shown(rule)) for number, rule in mods)))
         wanted = flowmods.in_bytes(mods)
         for room in {len(wanted), max(len(wanted) - 1, 0)}:
-            w = c.of["feed", "modsWritten"](c.of["feed", "rulesIn"](found), (0,) * room)
+            w = c.of["feed", "mods_written"](c.of["feed", "rules_in"](found), (0,) * room)
             fits = len(wanted) <= room
             c.same("FLOW_MODs of %s at switch %d in %d bytes" % (name, switch, room),
                    (w["0"]["answer"], w["0"]["length"], bytes(w["1"])),
@@ -344,7 +344,7 @@ def rehearsed(c):
     inputs += [(name, s) for name, s, lines in rehearsals.cases()]
     for name, s in inputs:
         if len(s) <= LONGEST and len(trials.read_first(s[1:])[3]) <= MOST_CHANGES:
-            c.same(name + " begun", c.of["rehearsal", "begunOf"](tuple(s))["answer"], rehearsals.begun(s)[0])
+            c.same(name + " begun", c.of["rehearsal", "begun_of"](tuple(s))["answer"], rehearsals.begun(s)[0])
             lines = rehearsals.rehearse(s)
             if len(lines) <= MOST_LINES or name.startswith("script"):
                 printed = c.of["rehearsal", "rehearsed"](tuple(s), (0,) * 1000)
@@ -358,14 +358,14 @@ def written(c):
     number and rule."""
     for what in flowmods.writings(True).asked:
         size, offset, number, *fields = what
-        w = c.of["openflow", "flowModWritten"](number, rule_of(*fields), (0xEE,) * size, offset)
+        w = c.of["openflow", "flow_mod_written"](number, rule_of(*fields), (0xEE,) * size, offset)
         answer, length, frame = flowmods.called(*what)
         found = w["0"]["answer"], w["0"]["length"], bytes(w["1"])
         c.same("FLOW_MOD %s" % (what,), found, (answer, length, frame))
         if answer == 0:
             s = tuple(frame[offset:offset + length])
-            c.same("number in %s" % (s,), c.of["openflow", "numberIn"](s), number)
-            c.same("rule in %s" % (s,), rule_text(c.of["openflow", "ruleIn"](s)), rule_text(rule_of(*fields)))
+            c.same("number in %s" % (s,), c.of["openflow", "number_in"](s), number)
+            c.same("rule in %s" % (s,), rule_text(c.of["openflow", "rule_in"](s)), rule_text(rule_of(*fields)))
 
 
 def main():

@@ -27,8 +27,8 @@ finds() {
 finds tag/specs/Sha256.antt '(ROTR 13 x)' '(ROTR 12 x)'
 finds lists/specs/Bytes.antt 'b \* 256 ^ length bs + num bs' 'b + 256 * num bs'
 finds switch/specs/Slots.antt '(n - 1) \/ 3 + 1' 'n \/ 3 + 1'
-finds controller/specs/Readiness.antt 'eqb (v .first) (u .first) && eqb' 'eqb'
+finds controller/specs/Readiness.antt 'eqb v\.first u\.first && eqb' 'eqb'
 # a length that counts the zeros behind it; those of whole messages have none
 finds openflow/specs/FlowMods.antt '(2, length)' '(2, length + (8 - length % 8) % 8)'
-finds domain/specs/Ideals.antt ' && skipsNone (i .made) (changeOf k)' ''
+finds domain/specs/Ideals.antt ' && skips_none i\.made (change_of k)' ''
 finish

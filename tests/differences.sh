@@ -8,15 +8,14 @@ if ! cargo --version >/dev/null 2>&1; then
     echo 'not run: tests/differences.sh needs cargo'
     exit 0
 fi
-programs=$(pwd)/target/bin
 . tests/inputs
-drive=target/bin/drive
-rehearse=target/bin/rehearse
-flowmods=target/bin/flowmods
-isolated=target/bin/isolated
-for program in $drive $rehearse $flowmods $isolated target/bin/assemble; do
+drive=crates/drive/out/drive
+rehearse=crates/rehearse/out/rehearse
+flowmods=crates/flowmods/out/flowmods
+isolated=crates/isolated/out/isolated
+for program in $drive $rehearse $flowmods $isolated crates/assemble/out/assemble; do
     if [ ! -x "$program" ]; then
-        echo "tests/differences.sh: $program is not there; rt check makes it"
+        echo "tests/differences.sh: $program is not there; rt ci makes it, or rt run in its crate's folder"
         echo '0 passed, 1 failed'
         exit 1
     fi
@@ -26,6 +25,7 @@ lanes=
 trap 'kill $lanes 2>/dev/null; rm -rf "$work"' EXIT
 trap 'exit 1' HUP INT TERM
 mkdir "$work" || exit 1
+programs=$(pwd)/crates/assemble/out
 # What cargo keeps for itself goes to the temporary folder, what it builds to target.
 CARGO_HOME=$work/home
 CARGO_TARGET_DIR=$(pwd)/target/differences

@@ -15,9 +15,7 @@ ended $? 'the documents have the faults above'
 # What a fault is put into: all that the check reads.
 tree=$work/tree
 mkdir "$tree" || exit 1
-for part in *.md bin bench crates docs examples tests; do
-    cp -R "$part" "$tree" || exit 1
-done
+copied "$tree" *.md bin bench docs examples tests tools || exit 1
 
 # finds PAGE EDIT FAULT: with this edit of a page exactly this fault is told, beside those of the tree.
 finds() {
@@ -32,8 +30,8 @@ finds() {
 
 finds README.md 's/(docs\/GLOSSARY.md)/(docs\/GLOSSARIES.md)/' 'README.md: there is no docs/GLOSSARIES.md'
 finds docs/GLOSSARY.md 's/(TRUSTED.md)/(TRUSTED.md#nowhere)/' 'docs/GLOSSARY.md: docs/TRUSTED.md has no heading nowhere'
-finds docs/PROVED.md 's/`table-by-last` (/`table-by-first` (/' \
-    'table-by-first is not in crates/domain/proofs/Theorem.antt'
+finds docs/PROVED.md 's/`table_by_last` (/`table_by_first` (/' \
+    'table_by_first is not in crates/domain/proofs/Theorem.antt'
 finds README.md 's/^\(.*\) 1,[0-9]* lines of definitions/\1 1,000 lines of definitions/' \
     "README.md does not say: $(sed -n 's/^Lines: \([0-9]*\)\([0-9][0-9][0-9]\)\. Files.*/\1,\2/p' docs/TRUSTED.md |
         head -n 1) lines of definitions"

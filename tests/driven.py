@@ -69,26 +69,26 @@ class SwitchCalls:
             self.state = self.alter(body[0], body[1:])
             return "altered"
         if letter == "S":
-            return self.replied("setup", self.of("setupOf", *body))
+            return self.replied("setup", self.of("setup_of", *body))
         if letter == "M":
-            return self.replied("received", self.of("receivedBy", self.state, self.keys, tuple(body)))
+            return self.replied("received", self.of("received_by", self.state, self.keys, tuple(body)))
         if letter == "R":
-            return self.replied("raised", self.of("raisedBy", self.state, body[0]))
+            return self.replied("raised", self.of("raised_by", self.state, body[0]))
         if letter == "I":
-            r = self.of("nextEvent", self.state["raised"], body[0])
+            r = self.of("next_event", self.state["raised"], body[0])
             return self.replied("raised in place", dict(r, state=dict(self.state, raised=r["raised"])))
         if letter in "EA":
             length, controller, offset = struct.unpack(">BBQ", body)
-            name = "eventWritten" if letter == "E" else "acknowledgementWritten"
+            name = "event_written" if letter == "E" else "acknowledgement_written"
             w = self.of(name, self.state, self.keys, controller, (0xEE,) * length, offset)
             return self.replied("written", w["0"], " frame " + bytes(w["1"]).hex() + "ee" * (FRAME - length))
         if letter == "Q":
-            return "quorum %d" % self.of("quorumOf", body[0])
+            return "quorum %d" % self.of("quorum_of", body[0])
         address = int.from_bytes(body, "big")
         if letter == "T":
-            found = self.flow["flow", "lookupOf"](address, self.flow["flow", "entriesOf"](self.state["table"]))
+            found = self.flow["flow", "lookup_of"](address, self.flow["flow", "entries_of"](self.state["table"]))
         else:
-            found = self.of("lookedUp", self.state, address)
+            found = self.of("looked_up", self.state, address)
         word = "forwarded " if letter == "T" else "looked up "
         return word + " ".join([found.case.lower()] + [str(part) for part in found.parts])
 
@@ -99,7 +99,7 @@ class ControllerCalls:
     def __init__(self, c):
         self.of = lambda name, *arguments: c.of["controller", name](*arguments)
         self.playbook, self.keys = c.of, ()
-        self.book = c.of["playbook", "storeOf"](c.of["playbook", "noPlans"])
+        self.book = c.of["playbook", "store_of"](c.of["playbook", "no_plans"])
         self.state = self.of("fresh", 0, 0, self.book)
 
     @staticmethod
@@ -165,7 +165,7 @@ class ControllerCalls:
             self.state = self.alter(body[0], body[1:])
             return "altered"
         if letter in "bf":
-            r = self.playbook["playbook", "readWhole" if letter == "b" else "readFirst"](tuple(body))
+            r = self.playbook["playbook", "read_whole" if letter == "b" else "read_first"](tuple(body))
             self.book = r["playbook"]
             if letter == "b":
                 return "read %d%s" % (r["answer"], self.book_text(self.book))
@@ -173,11 +173,11 @@ class ControllerCalls:
         if letter == "p":
             return "holds" + self.book_text(self.state["playbook"])
         if letter == "s":
-            return self.replied("setup", self.of("setupOf", *body, self.book))
+            return self.replied("setup", self.of("setup_of", *body, self.book))
         if letter == "m":
-            return self.replied("received", self.of("receivedBy", self.state, self.keys, tuple(body)))
+            return self.replied("received", self.of("received_by", self.state, self.keys, tuple(body)))
         if letter == "d":
-            return self.replied("decided", self.of("decidedBy", self.state, *struct.unpack(">BIB", body)))
+            return self.replied("decided", self.of("decided_by", self.state, *struct.unpack(">BIB", body)))
         length, switch, offset = struct.unpack(">BBQ", body)
-        w = self.of("shareWritten", self.state, self.keys, switch, (0xEE,) * length, offset)
+        w = self.of("share_written", self.state, self.keys, switch, (0xEE,) * length, offset)
         return self.replied("written", w["0"], " frame " + bytes(w["1"]).hex() + "ee" * (FRAME - length))

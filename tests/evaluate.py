@@ -65,11 +65,12 @@ def stored(l, i, x):
 
 LIBRARY = {
     "true": True, "false": False, "[]": (), "zero": 0, "suc": lambda n: n + 1, "not": lambda b: not b,
-    "eqb": lambda a, b: a == b, "ltb": lambda a, b: a < b, "leb": lambda a, b: a <= b,
+    "eqb": lambda a, b: a == b, "ltb": lambda a, b: a < b, "leb": lambda a, b: a <= b, "nat_le": lambda a, b: a <= b,
     "length": len, "take": lambda n, l: l[:n], "drop": lambda n, l: l[n:], "set": stored,
-    "getD": lambda l, i, z: l[i] if i < len(l) else z, "replicate": lambda n, x: (x,) * n,
+    "get_or": lambda l, i, z: l[i] if i < len(l) else z, "slice_index": lambda l, i: l[i] if i < len(l) else 0,
+    "slice_index_or": lambda l, i, z: l[i] if i < len(l) else z, "replicate": lambda n, x: (x,) * n,
     "map": lambda f, l: tuple(apply(f, x) for x in l),
-    "bitAnd": lambda a, b: a & b, "bitOr": lambda a, b: a | b, "bitXor": lambda a, b: a ^ b,
+    "bit_and": lambda a, b: a & b, "bit_or": lambda a, b: a | b, "bit_xor": lambda a, b: a ^ b,
     "ones": lambda a: bin(a).count("1"),
 }
 INFIX = {"+": "({} + {})", "-": "max({} - {}, 0)", "*": "({} * {})", "/": "({} // {})", "%": "({} % {})",
@@ -102,8 +103,8 @@ class Definitions:
     def meant(self, path, name):
         """A definition, "case", or the library's value for a name in a file."""
         uses, (of, _, last) = self.files[path].uses, name.rpartition(".")
-        if (path, name) in self.named or (path, "_%s_" % name) in self.named:
-            return self.named.get((path, name)) or self.named[path, "_%s_" % name]
+        if (path, name) in self.named or (path, "◌%s◌" % name) in self.named:
+            return self.named.get((path, name)) or self.named[path, "◌%s◌" % name]
         used = uses.files.get(of) if of else uses.names.get(name)
         if used and antt.declared(used):
             return "case"

@@ -141,7 +141,7 @@ ended $? "$page lists other FLOW_MODs of the first evening"
 refuses() {
     mkdir -p "$work/edited"
     sed "$4" "$work/tonight.txt" >"$work/edited/tonight.txt"
-    said=$(cd "$work/edited" && "$programs/../../bin/flowmods" "$3" tonight.txt 2>&1 >"$work/printed")
+    said=$(cd "$work/edited" && "$top/bin/flowmods" "$3" tonight.txt 2>&1 >"$work/printed")
     [ $? -eq "$1" ] && [ "$said" = "$2" ] && grep -q -F "| \`$2\` | $1 |" $page
     ended $? "bin/flowmods $3 of tonight.txt with the edit $4 says: $said; or $page tells it otherwise"
 }

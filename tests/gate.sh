@@ -1,6 +1,6 @@
 #!/bin/sh
-# The gate tells the truth about its stages: it is run on a small tree with a stand-in for rt that passes, fails, tries
-# nothing, or dies, and its last line and exit status are compared with what they should be.
+# The gate tells the truth about its stages: it is run on a small tree with a stand-in for rt that passes, fails, has a bad
+# edit, tries nothing, or dies, and its last line and exit status are compared with what they should be.
 set -u
 gate=$(pwd)/.ci/run
 tree=${TMPDIR:-/tmp}/gate-test.$$
@@ -12,9 +12,9 @@ path=$PATH
 passed=0
 failed=0
 
-# rt_does FMT CI: the stand-in's two commands.
+# rt_does CI: what the stand-in does where it is asked for a plain rt ci; all else that it is asked for fails.
 rt_does() {
-    printf '#!/bin/sh\ncase $1 in fmt) %s ;; ci) %s ;; esac\n' "$1" "$2" >"$tree/bin/rt"
+    printf '#!/bin/sh\n[ "$*" = ci ] || exit 9\n[ -f crates.txt ] || exit 9\n%s\n' "$1" >"$tree/bin/rt"
     chmod +x "$tree/bin/rt"
 }
 
@@ -35,27 +35,42 @@ expect() {
     esac
 }
 
-echo 'one:' >"$tree/crates.txt"
-good='echo "7 passed, 0 failed"'
-rt_does true "$good"
+printf '# a comment: none\none staticlib may_wait=1: other\n' >"$tree/crates.txt"
+# said EDITS: the last lines of rt ci where all is well, with what its line 'rt: ok' says of the must-fail edits.
+said() {
+    echo "echo 'rt: ok; handles allowed: none$1; every proof and must-fail edit was done in this run'"
+}
+edits='; must-fail edits: 3 refused'
+good="$(said "$edits"); echo '7 passed, 0 failed'"
+rt_does "$good"
 expect 'all stages pass' 0 '9 passed, 0 failed'
-rt_does false "$good"
-expect 'the layout is not clean' 1 '8 passed, 1 failed'
-rt_does true 'echo "6 passed, 2 failed"; exit 1'
-expect 'proofs fail' 1 '8 passed, 2 failed'
-rt_does true 'echo "7 passed, 0 failed"; exit 3'
-expect 'rt ends with a status after a good tally' 1 '9 passed, 1 failed'
-rt_does true 'echo "0 passed, 0 failed"'
+rt_does "$(said ''); echo '7 passed, 0 failed'"
+expect 'there is no must-fail edit' 0 '9 passed, 0 failed'
+rt_does "$(said "$edits, 2 of them only by a limit"); echo '7 passed, 0 failed'"
+expect 'two edits are refused by a limit' 0 '9 passed, 0 failed'
+rt_does "$(said "$edits, 1 bad"); echo '7 passed, 0 failed'"
+expect 'an edit is bad' 1 '8 passed, 1 failed'
+rt_does "$(said "$edits, 2 of them only by a limit, 12 bad"); echo '7 passed, 0 failed'"
+expect 'twelve edits are bad' 1 '8 passed, 1 failed'
+rt_does "$(said '; must-fail edits: 0 refused, 1 bad'); echo '7 passed, 0 failed'"
+expect 'the only edit is bad' 1 '8 passed, 1 failed'
+rt_does 'echo "7 passed, 0 failed"'
+expect 'rt does not tell of its edits' 1 '8 passed, 1 failed'
+rt_does 'echo "6 passed, 2 failed"; exit 1'
+expect 'proofs fail' 1 '7 passed, 2 failed'
+rt_does "$good; exit 3"
+expect 'rt ends with a status after a good tally' 1 '8 passed, 1 failed'
+rt_does "$(said ''); echo '0 passed, 0 failed'"
 expect 'rt tries nothing' 1 '2 passed, 1 failed'
-rt_does true 'echo "rt: ok"'
+rt_does "$(said '')"
 expect 'rt ends well and counts nothing' 1 '2 passed, 1 failed'
-rt_does true 'echo "5 passed, 0 failed"; kill -KILL $$'
+rt_does 'echo "5 passed, 0 failed"; kill -KILL $$'
 expect 'rt is killed' 1 '* passed, 1 failed'
-rt_does true 'kill -TERM $PPID; sleep 1; '"$good"
+rt_does 'kill -TERM $PPID; sleep 1; '"$good"
 expect 'the stage is killed' 1 '* passed, 1 failed'
-rt_does true 'kill -TERM $(ps -o ppid= -p $PPID); '"$good"
-expect 'the gate is killed' 1 '2 passed, 1 failed'
-rt_does true "$good"
+rt_does 'kill -TERM $(ps -o ppid= -p $PPID); '"$good"
+expect 'the gate is killed' 1 '1 passed, 1 failed'
+rt_does "$good"
 mkdir "$tree/crates/two"
 expect 'a crate is not listed' 1 '8 passed, 1 failed'
 rmdir "$tree/crates/two"
@@ -76,11 +91,11 @@ scratch=$tree/nowhere
 expect 'there is no place for its files' 1 '0 passed, 1 failed'
 scratch=$tree
 rm "$tree/bin/rt"
-for tool in cat dirname grep mkdir rm sed sh tail tee; do
+for tool in cat dirname grep mkdir mv rm sed sh tail tee; do
     ln -s "$(command -v $tool)" "$tree/bin/$tool"
 done
 path=$tree/bin
-expect 'the kit is missing' 1 '1 passed, 2 failed'
+expect 'the kit is missing' 1 '1 passed, 1 failed'
 
 echo "$passed passed, $failed failed"
 [ "$failed" -eq 0 ]

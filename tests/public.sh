@@ -8,7 +8,7 @@ script=public.sh
 
 # faults FOLDER: the public functions below a folder of crates that are not so, and what is wrong with each.
 faults() {
-    find "$1" -type f -path '*/src/*.rt' -exec awk '
+    find "$1" -path "$1/*/out" -prune -o -type f -path '*/src/*.rt' -exec awk '
         function closed() {
             if (!open) return
             if (requires) print at ": " name " has a requires"
@@ -45,12 +45,12 @@ refuses() {
     ended $? "found '$found', not '$2', in: $3"
 }
 
-promise='    ensures { λ r. ⌜ r ≡ x ⌝ }\n'
+promise='    ensures { result ≡ x }\n'
 refuses one '' "pub fn f(x: u8) -> u8\n$promise{\n    x\n}\n"
 refuses one 'one::f has no ensures' 'pub fn f(x: u8) -> u8 {\n    x\n}\n'
 refuses one 'one::f has no ensures' 'pub fn f(x: u8) -> u8 { x }\n'"fn g(x: u8) -> u8\n$promise{\n    x\n}\n"
 refuses one 'one::f has no ensures' 'pub extern "C" fn f(\n    x: &mut [u8],\n) {\n    x[0] = 0;\n}\n'
-refuses one 'one::f has a requires' "pub fn f(x: u8) -> u8\n    requires { ⌜ x ≤ 1 ⌝ }\n$promise{\n    x\n}\n"
+refuses one 'one::f has a requires' "pub fn f(x: u8) -> u8\n    requires { x ≤ 1 }\n$promise{\n    x\n}\n"
 refuses one 'one::say_it has no ensures' 'pub fn say_it(x: u8) {\n    say(x);\n}\n'
 refuses one '' 'pub(crate) fn f(x: u8) -> u8 {\n    x\n}\n'
 refuses story '' 'pub fn say_it(x: u8) {\n    say(x);\n}\n'

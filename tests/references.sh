@@ -30,7 +30,7 @@ work=${TMPDIR:-/tmp}/references.$$
 mkdir "$work" || exit 1
 for calls in drills flowmods duties; do
     python3 "tests/$calls.py" stdout long >"$work/expected"
-    python3 "tests/$calls.py" stdin long | target/bin/drive >"$work/printed"
+    python3 "tests/$calls.py" stdin long | crates/drive/out/drive >"$work/printed"
     [ -s "$work/expected" ] && cmp "$work/expected" "$work/printed"
     ended $? "drive does not print what tests/$calls.py works out for the long list of calls"
 done

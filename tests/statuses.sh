@@ -39,6 +39,9 @@ for crate in base depth words parts $programs_here other; do
     done
     echo text >"$tree/crates/$crate/stdin"
 done
+for program in $programs_here; do
+    echo text >"$tree/crates/$program/src/main.rt"
+done
 for tool in awk cat cp date dd dirname find grep mkdir mktemp mv od readlink rm sed sh sleep tail touch tr wc; do
     ln -s "$(command -v $tool)" "$work/tools/$tool"
 done
@@ -95,61 +98,73 @@ esac
 PROGRAM
 cat >"$kit/rt" <<'RT'
 #!/bin/sh
-# Proves what has no stamp, and builds.
+# In a crate's folder: proves the crates below it that have no stamp, silent about the others, builds its program where it
+# has no stamp or is not there, and runs it.
 kit=${0%/*}
 cat >/dev/null
-echo "$*" >>"$kit/log"
-mkdir -p target/stamp target/bin
+program=${PWD##*/}
+echo "$* in $program" >>"$kit/log"
+proved() {
+    echo "fn $1::main: proved"
+    echo "library base: modules loaded=2 checked=0"
+    echo "crate $1: modules loaded=0 checked=3"
+    printf 'logic=pro'
+    echo "ved functions=1 sum=0"
+    mkdir -p "../$1/out/rlib"
+}
 case $(cat "$kit/mood" 2>/dev/null) in
 fails)
-    echo 'rt: base proved (3 s)'
+    proved base
     echo 'a proof fails'
     exit 1
     ;;
 idle) exit 0 ;;
-edits) touch crates/base/src/file ;;
+edits)
+    # A change in the tick of the clock in which rt began is one that rt has read. This one comes later.
+    sleep 1
+    touch ../base/src/file
+    ;;
 slow)
     sh -c 'echo $$ >"$1/prover"; exec sleep 60' sh "$kit" &
     wait
     ;;
 esac
 crates='base words depth parts'
-case $* in
-'check assemble' | 'check disassemble') crates='base words' ;;
+case $program in
+assemble | disassemble) crates='base words' ;;
 esac
-shift
-for program; do
-    [ -e "target/stamp/$program" ] || cp "$kit/program" "target/bin/$program"
+for crate in $crates; do
+    [ -e "../$crate/out/rlib/stamp" ] || proved "$crate"
+    : >"../$crate/out/rlib/stamp"
 done
-for crate in $crates "$@"; do
-    if [ -e "target/stamp/$crate" ]; then
-        echo "rt: $crate proved (unchanged since it was last proved)"
-    else
-        echo "fn $crate::main: proved"
-        printf 'rt: %s pro' "$crate"
-        echo 'ved (3 s)'
-        : >"target/stamp/$crate"
-    fi
-done
+if [ -e "out/$program.stamp" ] && [ -e "out/$program" ]; then
+    echo "rt: nothing has changed since the last proved build, by out/$program.stamp, so nothing is checked now"
+else
+    proved "$program"
+    cp "$kit/program" "out/$program"
+    : >"out/$program.stamp"
+fi
+echo "rt: running out/$program; to give it other input, run that file yourself"
+"out/$program" </dev/null
 RT
 chmod +x "$kit/program" "$kit/rt"
 
 # built_all: every program of the tree is built.
 built_all() {
-    mkdir -p "$tree/target/bin"
     for name in $programs_here; do
-        cp "$kit/program" "$tree/target/bin/$name"
+        mkdir -p "$tree/crates/$name/out"
+        cp "$kit/program" "$tree/crates/$name/out/$name"
     done
 }
 # built_none: no program of the tree is built.
 built_none() {
-    rm -rf "$tree/target" "$kit/log" "$kit/mood"
+    rm -rf "$tree"/crates/*/out "$kit/log" "$kit/mood"
 }
-# asked WHAT PROGRAMS..: each run of rt was asked for these programs, in this order.
+# asked WHAT PROGRAM..: rt was asked for these programs, in this order.
 asked() {
     what=$1
     shift
-    for name; do echo "check $name"; done >"$work/asked"
+    for name; do echo "run in $name"; done >"$work/asked"
     if [ -e "$kit/log" ]; then cmp "$work/asked" "$kit/log"; else [ $# -eq 0 ]; fi
     ended $? "$shell, $what: rt was asked for: $(cat "$kit/log" 2>/dev/null)"
 }
@@ -425,7 +440,7 @@ unwritten() {
         by rehearse --explain --picture none.svg full.txt >printed 2>errors
         status=$?
         [ $status -eq 5 ] && [ ! -e none.svg ] &&
-            grep -q "target/bin/$name: not all of the output could be written\$" errors
+            grep -q "crates/$name/out/$name: not all of the output could be written\$" errors
         ended $? "$shell, $name could not write all: status $status, and it says: $(cat errors)"
     done
     for name in assemble survey rehearse flowmods flowlist; do
@@ -433,7 +448,7 @@ unwritten() {
         list=
         [ $name != flowlist ] || list=--list
         tried "$shell, flowmods, $name could not write all" 5 /dev/null \
-            "bin/flowmods: target/bin/$name: not all of the output could be written" by flowmods $list 5 full.txt
+            "bin/flowmods: crates/$name/out/$name: not all of the output could be written" by flowmods $list 5 full.txt
     done
     printf 'disassemble is full\001' >full.bin
     tried "$shell, disassemble could not write all" 5 /dev/null '*disassemble: not all of *' by disassemble full.bin
@@ -479,7 +494,7 @@ crashed() {
         by rehearse --explain --picture old.svg crash.txt >printed 2>errors
         status=$?
         [ $status -eq 6 ] && [ "$(cat old.svg)" = old ] && ! grep -q -i 'fault' errors &&
-            grep -q "target/bin/$name was ended by signal 11; it needs 7 MB of stack (ulimit -s)\$" errors
+            grep -q "crates/$name/out/$name was ended by signal 11; it needs 7 MB of stack (ulimit -s)\$" errors
         ended $? "$shell, $name crashes: status $status, and it says: $(cat errors)"
     done
     for name in assemble survey rehearse flowmods flowlist; do
@@ -487,7 +502,7 @@ crashed() {
         list=
         [ $name != flowlist ] || list=--list
         tried "$shell, flowmods, $name crashes" 6 /dev/null \
-            "bin/flowmods: target/bin/$name was ended by signal 11; it needs 7 MB of stack (ulimit -s)" \
+            "bin/flowmods: crates/$name/out/$name was ended by signal 11; it needs 7 MB of stack (ulimit -s)" \
             by flowmods $list 5 crash.txt
     done
     printf 'assemble crashes' >crash.txt
@@ -510,7 +525,7 @@ crashed() {
 
 # The time that the lines of a build tell is left open.
 untimed() {
-    sed 's/about [0-9]* [a-z]*/about T/' "$@"
+    sed 's/about [0-9]* [a-z]*/about T/; s/proved ([0-9]* s)/proved (T)/' "$@"
 }
 
 building() {
@@ -522,39 +537,39 @@ building() {
     tried "$shell, flowmods of no switch, without rt" 3 /dev/null '*no switch 16*' without_rt flowmods 16 good.txt
     built_none
     tried "$shell, a faulty text, nothing built" 3 /dev/null '*faulty.txt:3: *' by rehearse --explain faulty.txt
-    asked 'a faulty text' 'assemble survey'
+    asked 'a faulty text' assemble survey
     tried "$shell, a refused playbook, nothing else built" 4 refused.out '*refused.txt:4: the words of survey*' \
         by rehearse --explain --picture none.svg refused.txt
-    asked 'a refused playbook' 'assemble survey'
+    asked 'a refused playbook' assemble survey
     tried "$shell, flowmods, nothing else built" 0 mods.out '*once: 2 crates, *' by flowmods 5 good.txt
-    asked 'flowmods' 'assemble survey' 'rehearse flowmods'
-    ! grep -v '^bin/flowmods: .* proved (3 s), [12] of 2\|^bin/flowmods: proves and builds ' errors
+    asked 'flowmods' assemble survey rehearse flowmods
+    ! grep -v '^bin/flowmods: .* proved ([0-9]* s), [12] of 2\|^bin/flowmods: proves and builds ' errors
     ended $? "$shell, flowmods says more than how it is built: $(cat errors)"
     tried "$shell, flowmods --list, nothing else built" 0 list.out '*once: 1 crate, *' by flowmods --list 5 good.bin
-    asked 'flowmods --list' 'assemble survey' 'rehearse flowmods' flowlist
+    asked 'flowmods --list' assemble survey rehearse flowmods flowlist
     built_none
     tried "$shell, bytes, nothing built" 0 good.out '*' by rehearse good.bin
     asked 'bytes' survey rehearse
     built_none
     tried "$shell, all of it, nothing built" 0 explained.out '*' by rehearse --picture new.svg --explain good.txt
-    asked 'all of it' 'assemble survey' 'rehearse explain picture'
-    # Nine crates of 30 s, those that measured.txt does not name by the mean, 0.7 of which is 189 s.
-    grep -q 'once: 9 crates, about 3 minutes; ' errors
+    asked 'all of it' assemble survey rehearse explain picture
+    # Nine crates of 30 s, those that measured.txt does not name by the mean.
+    grep -q 'once: 9 crates, about 5 minutes; ' errors
     ended $? "$shell, a build is said to take another time: $(cat errors)"
     untimed errors >lines
     {
         echo 'bin/rehearse: proves and builds its programs first, once: 9 crates, about T;' \
             'examples/second-evening.explained.txt shows what will come'
-        echo 'bin/rehearse: base proved (3 s), 1 of 9; about T still'
-        echo 'bin/rehearse: words proved (3 s), 2 of 9; about T still'
-        echo 'bin/rehearse: depth proved (3 s), 3 of 9; about T still'
-        echo 'bin/rehearse: parts proved (3 s), 4 of 9; about T still'
-        echo 'bin/rehearse: assemble proved (3 s), 5 of 9; about T still'
-        echo 'bin/rehearse: survey proved (3 s), 6 of 9; about T still'
+        echo 'bin/rehearse: base proved (T), 1 of 9; about T still'
+        echo 'bin/rehearse: words proved (T), 2 of 9; about T still'
+        echo 'bin/rehearse: assemble proved (T), 3 of 9; about T still'
+        echo 'bin/rehearse: depth proved (T), 4 of 9; about T still'
+        echo 'bin/rehearse: parts proved (T), 5 of 9; about T still'
+        echo 'bin/rehearse: survey proved (T), 6 of 9; about T still'
         echo 'bin/rehearse: good.txt is in the notation'
-        echo 'bin/rehearse: rehearse proved (3 s), 7 of 9; about T still'
-        echo 'bin/rehearse: explain proved (3 s), 8 of 9; about T still'
-        echo 'bin/rehearse: picture proved (3 s), 9 of 9'
+        echo 'bin/rehearse: rehearse proved (T), 7 of 9; about T still'
+        echo 'bin/rehearse: explain proved (T), 8 of 9; about T still'
+        echo 'bin/rehearse: picture proved (T), 9 of 9'
     } | cmp - lines
     ended $? "$shell, a build is told otherwise: $(cat lines)"
 }
@@ -562,7 +577,7 @@ building() {
 # What a program is made of, and what not. Everything is built.
 rebuilding() {
     tried "$shell, without rt, and nothing to build" 0 explained.out '*' without_rt rehearse --explain good.txt
-    tried "$shell, a program more" 0 told.out '*once: 1 crate, about 30 seconds*disassemble proved (3 s), 1 of 1*' \
+    tried "$shell, a program more" 0 told.out '*once: 1 crate, about 40 seconds*disassemble proved ([0-9]* s), 1 of 1*' \
         by rehearse --expand good.txt
     rm -f "$kit/log"
     touch "$tree/crates/base/must-fail/file" "$tree/crates/base/stdin" "$tree/crates/other/src/file" \
@@ -573,7 +588,7 @@ rebuilding() {
     tried "$shell, a proof that changed" 2 /dev/null '*no rt command*' without_rt rehearse good.txt
     tried "$shell, a proof that changed, with rt" 0 good.out '*' by rehearse good.txt
     asked 'a proof that changed' survey rehearse
-    rm -f "$kit/log" "$tree/target/bin/assemble"
+    rm -f "$kit/log" "$tree/crates/assemble/out/assemble"
     echo edits >"$kit/mood"
     tried "$shell, a file that changes while rt runs" 0 good.txt '*' by assemble good.txt
     rm -f "$kit/mood"
@@ -592,21 +607,20 @@ unbuilt() {
         echo idle >"$kit/mood"
         tried "$shell, $command, rt that builds nothing" 1 /dev/null '*could not be built: *' by $command good.txt
         built_none
-        : >"$tree/target"
-        tried "$shell, $command, a file in the way of target" 1 /dev/null \
-            '*must be built, and *target cannot be written' by $command good.txt
+        : >"$tree/crates/base/out"
+        tried "$shell, $command, a file in the way of an out/" 1 /dev/null \
+            '*must be built, and *base/out cannot be written' by $command good.txt
         [ "$(grep -c . errors)" -le 2 ]
         ended $? "$shell, $command says too much of a tree that cannot be written"
-        rm "$tree/target"
-        mkdir "$tree/target"
-        chmod a-w "$tree/target"
-        if [ -w "$tree/target" ]; then
+        rm "$tree/crates/base/out"
+        chmod a-w "$tree/crates/base"
+        if [ -w "$tree/crates/base" ]; then
             echo "tests/$script: this user can write any folder, so not run: $command, a tree not to be written"
         else
             tried "$shell, $command, a tree not to be written" 1 /dev/null '*must be built, and *cannot be written' \
                 by $command good.txt
         fi
-        chmod u+w "$tree/target"
+        chmod u+w "$tree/crates/base"
     done
 }
 
@@ -618,7 +632,7 @@ on_terminal() {
     fi
     built_none
     PATH="$kit:$PATH" script -qec "$shell '$tree/bin/assemble' good.txt 2>&1 >printed" /dev/null </dev/null >errors
-    [ "$(tr '\r' '\n' <errors | grep -c ' proved (3 s), [123] of 3')" -eq 3 ] &&
+    [ "$(tr '\r' '\n' <errors | grep -c ' proved ([0-9]* s), [123] of 3')" -eq 3 ] &&
         [ "$(grep -c ' proved (' errors)" -eq 1 ] && cmp good.txt printed
     ended $? "$shell, on a terminal a build is told otherwise: $(cat errors)"
     built_all
@@ -702,7 +716,7 @@ with_stack() {
         ulimit -s "$1" && shift && "$@"
     )
 }
-cd "$programs/../.." || exit 1
+cd "$top" || exit 1
 rm -f "$work/none.svg"
 tried 'the real programs with too little stack' 6 /dev/null \
     '*was ended by signal 11; it needs [0-9]* MB of stack (ulimit -s)' \

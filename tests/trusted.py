@@ -74,7 +74,7 @@ class Base:
 
     def meant(self, uses, path, name):
         """The definition or type that a name means in a file, or none."""
-        local = self.named.get((path, name)) or self.named.get((path, "_%s_" % name))
+        local = self.named.get((path, name)) or self.named.get((path, "◌%s◌" % name))
         of, _, last = name.rpartition(".")
         used = uses.files.get(of) if of else uses.names.get(name)
         if local or not used:
@@ -148,7 +148,7 @@ class Base:
     def in_order(self, chosen, first=None):
         """The files of some definitions, each before those that it uses; of others the higher crate's first."""
         with open("crates.txt", encoding="utf-8") as file:
-            crates = re.findall(r"(?m)^(\w+):", file.read())
+            crates = re.findall(r"(?m)^(\w+)[^#:\n]*:", file.read())
         below = {d.path: set() for d in chosen}
         for d in chosen:
             below[d.path] |= {used.path for used in self.used_by(d) & chosen}

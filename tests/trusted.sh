@@ -22,7 +22,7 @@ rows() {
 
 tree=$work/tree
 mkdir -p "$tree/docs" || exit 1
-cp -R crates crates.txt tests "$tree" && cp docs/CLAIMS.md "$tree/docs" || exit 1
+copied "$tree" crates.txt tests && cp docs/CLAIMS.md "$tree/docs" || exit 1
 cd "$tree" || exit 1
 set -- $(rows "$work/page")
 printf '\nabbrev pub fallen : List ℕ → List ℕ\nfallen ks = falling ks\n' >>crates/protocol/specs/Orders.antt
@@ -31,7 +31,7 @@ ended $? 'a definition that nobody uses is not told'
 python3 tests/trusted.py >"$work/other"
 [ "$(rows "$work/other")" = "$1 $(($2 + 2))" ]
 ended $? 'a definition that nobody uses is counted with the claim'
-sed -i.bak -e 's/{falling}/{falling, fallen}/' -e 's/(falling (answered r)) .refused/(fallen (answered r)) .refused/' \
+sed -i.bak -e 's/{falling}/{falling, fallen}/' -e 's/(falling (answered r))).refused/(fallen (answered r))).refused/' \
     crates/domain/specs/Claim.antt
 python3 tests/trusted.py dead 2>&1 | grep -q fallen
 [ $? -ne 0 ]

@@ -55,7 +55,7 @@ def crates(root):
     """Each crate with the crates that it is built on."""
     with open(root + "/crates.txt", encoding="utf-8") as file:
         rows = [line.split(":") for line in file if ":" in line and not line.startswith("#")]
-    return {name: set(below.split()) for name, below in rows}
+    return {name.split()[0]: set(below.split()) for name, below in rows}
 
 
 def trusted(root):

@@ -1,5 +1,6 @@
 // The answers and question numbers of document 01, "The questions, in order", one constant each.
 // A question's number is returned when its answer is no.
+#![tactic(auto)]
 
 pub mod limits;
 

@@ -1,5 +1,6 @@
 // Text on standard error: words, numbers, names, and a word of the input as far as it can be shown.
-use libc::STDERR_FILENO;
+const STDERR_FILENO: i32 = 2;
+
 use lists::{byte_at, front};
 use notation::Name;
 

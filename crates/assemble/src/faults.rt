@@ -2,7 +2,7 @@
 use crate::errors::{warn, warn_name, warn_number};
 use notation::Field;
 
-#[derive(Drop)]
+#[derive(Clone, Copy)]
 pub(crate) enum Fault {
     None,
     // Faults 1 to 15 of docs/NOTATION.md, "What bad text gets", in their order; `NumberOrAll` is 5 too.

@@ -6,7 +6,7 @@ use notation::kinds;
 // The switches that `all` can stand for.
 const SWITCHES: usize = 16;
 
-#[derive(Drop)]
+#[derive(Clone, Copy)]
 pub(crate) struct Known {
     pub(crate) before: Before,
     pub(crate) controllers: u8,

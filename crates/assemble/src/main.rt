@@ -1,6 +1,8 @@
 // Assembles the notation of a rehearsal (docs/NOTATION.md): reads text from standard input whole and writes the bytes
 // that it stands for to standard output and the map of records to lines to standard error, or a line on the first fault
 // to standard error alone.
+#![tactic(auto)]
+
 mod errors;
 mod faults;
 mod fields;
@@ -21,7 +23,11 @@ ghost use Rattle.notation.specs.Limits.{input_limit, text_limit};
 
 use errors::warn;
 use known::Known;
-use libc::{STDIN_FILENO, STDOUT_FILENO};
+
+const STDIN_FILENO: i32 = 0;
+
+const STDOUT_FILENO: i32 = 1;
+
 use lists::{behind, byte_at, front};
 use notation::{INPUT, TEXT};
 use output::{MAP, Made, nothing_made};
@@ -35,7 +41,7 @@ use words::{find, has_words, uncommented};
 const SPACE: usize = TEXT + 1;
 
 // How far a text is read: what its lines have said, what they stand for, and whether a fault was told.
-#[derive(Drop)]
+#[derive(Clone, Copy)]
 struct Progress {
     known: Known,
     made: Made,

@@ -6,7 +6,7 @@ use notation::{INPUT, LINE};
 pub(crate) const MAP: usize = 131072;
 
 // How many bytes of the input and of the map are there, and whether there was no room for a record.
-#[derive(Drop)]
+#[derive(Clone, Copy)]
 pub(crate) struct Made {
     pub(crate) count: usize,
     pub(crate) mapped: usize,

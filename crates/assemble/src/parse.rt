@@ -6,7 +6,7 @@ use lists::same;
 use notation::LINE;
 
 // What the records before allow next: the first of all, any but shorthand, any, only further bytes, or none.
-#[derive(Drop)]
+#[derive(Clone, Copy)]
 pub(crate) enum Before {
     Nothing,
     Playbook,
@@ -15,7 +15,7 @@ pub(crate) enum Before {
     Bytes,
 }
 
-#[derive(Drop)]
+#[derive(Clone, Copy)]
 pub(crate) struct Parse {
     // Where the next word is looked for.
     pub(crate) at: usize,

@@ -5,7 +5,7 @@ use crate::parse::Parse;
 use notation::{INPUT, LINE, kinds};
 
 // A record, and whether it stands for all controllers, for all switches, and for the first half of a full round.
-#[derive(Drop)]
+#[derive(Clone, Copy)]
 struct Pattern {
     bytes: [u8; LINE],
     count: usize,

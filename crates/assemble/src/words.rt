@@ -11,7 +11,7 @@ const NO_BYTE: u16 = 256;
 const NO_DIGIT: u8 = 16;
 
 // The parts of an address and its prefix's length, and whether the word is one.
-#[derive(Drop)]
+#[derive(Clone, Copy)]
 pub(crate) struct Address {
     pub(crate) parts: [u8; 5],
     pub(crate) good: bool,

@@ -1,4 +1,6 @@
 // What the test programs share: the fields of a case, and values printed. Nothing that is delivered rests on it.
+#![tactic(auto)]
+
 ghost use Rattle.std.specs.Prelude.{◌≡◌, [], ◌∷◌, ◌+◌, eqb};
 ghost use Rattle.answer.specs.Ask.{pick};
 ghost use Rattle.lists.specs.Bytes.{num, byte_at};

@@ -1,11 +1,10 @@
 -- Lists of what a function gives for the places from one on. Assumes nothing.
 use mathlib.Core.Path.{◌≡◌, refl, ap, ◌∙◌}
-use mathlib.Core.List.{List, [], ◌∷◌}
+use mathlib.Core.List.{List}
 use Prim.Native.Nat.{ℕ, zero, suc, ◌+◌, ◌-◌, ◌≤◌, ◌<◌}
 use native.Mathlib.Omega.{arith}
 use lib.ListN.{length, get_or, drop}
 use Rattle.controller.specs.Changes.{empty_undone}
-use Rattle.controller.specs.declared.Undone.{Undone}
 use Rattle.domain.specs.Ideals.{change_of}
 use Rattle.checker.specs.Layout.{listed_from, change_at, changes_in}
 

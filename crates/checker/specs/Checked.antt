@@ -6,7 +6,7 @@ use Rattle.lists.specs.Arrays.{pad}
 use Rattle.lists.specs.Kinds.{is_among}
 use Rattle.controller.specs.declared.Undone.{Undone}
 use Rattle.isolation.specs.Networks.{Traffic, Network, network_ok}
-use Rattle.isolation.specs.Check.{Failure, Verdict, fine, fails, undecided, check, check_lost}
+use Rattle.isolation.specs.Check.{Verdict, fine, fails, undecided, check, check_lost}
 use Rattle.isolation.specs.Flights.{check_flights}
 use Rattle.checker.specs.Layout.{most_changes, most_links, most_lines, listed_from, changes_in, network_in}
 use Rattle.checker.specs.declared.Aim.{Aim}

@@ -1,6 +1,8 @@
 // The check that no order of arrival takes a packet off its client's links (crate isolation, specs/Check.antt and
 // specs/Flights.antt), over numbers that the caller lends, and the agreed changes of a playbook and decisions laid out for
 // it. Every public function takes every input.
+#![tactic(auto)]
+
 mod agreeing;
 mod changes;
 mod checks;
@@ -25,7 +27,7 @@ pub const LINED: usize = limits::LINES * limits::LINE;
 
 // What is asked of every packet: that it keeps to its client's links, the tables standing still; that it is not lost past
 // its first switch; that it keeps to its client's links though tables change while it is under way.
-#[derive(Drop)]
+#[derive(Clone, Copy)]
 pub enum Aim {
     Resting,
     Losing,
@@ -33,7 +35,7 @@ pub enum Aim {
 }
 
 // A line of traffic: a client, the prefix and length that its packets go to, and the switch at which they come in.
-#[derive(Drop)]
+#[derive(Clone, Copy)]
 pub struct Line {
     pub client: u32,
     pub prefix: u32,
@@ -44,7 +46,7 @@ pub struct Line {
 // What the check says: 0 where all is fine, with what is left of the budget; 1 with a line of traffic, an address and the
 // changes made by then, where a packet fails; 2 where the budget was too small; 3 where the numbers lent are no network.
 // What a reply does not have is 0.
-#[derive(Drop)]
+#[derive(Clone, Copy)]
 pub struct Outcome {
     pub answer: u8,
     pub left: u64,
@@ -55,7 +57,7 @@ pub struct Outcome {
 
 // The agreed changes laid out: the first `count` are in use. More than there is room for are counted, and not laid out.
 // The answer is 0, or 20 with none for a playbook that its reader would not store.
-#[derive(Drop)]
+#[derive(Clone, Copy)]
 pub struct Agreed {
     pub answer: u8,
     pub changes: [u32; CHANGED],
@@ -63,7 +65,7 @@ pub struct Agreed {
 }
 
 // Along a list of decisions: the last serial of each switch, and the changes so far.
-#[derive(Drop)]
+#[derive(Clone, Copy)]
 pub(crate) struct Course {
     pub(crate) serials: [u32; answer::limits::OF_SWITCHES],
     pub(crate) changes: [u32; CHANGED],
@@ -72,7 +74,7 @@ pub(crate) struct Course {
 
 // What is asked about one line of traffic: how many changes and links are in use, the number up to which all changes are
 // made, and whether packets that are lost count.
-#[derive(Drop)]
+#[derive(Clone, Copy)]
 pub(crate) struct Quest {
     pub(crate) count: usize,
     pub(crate) linked: usize,
@@ -85,7 +87,7 @@ pub(crate) struct Quest {
 }
 
 // A verdict on one address: the answer, what is left of the budget, and the changes made where it fails.
-#[derive(Drop)]
+#[derive(Clone, Copy)]
 pub(crate) struct Ruling {
     pub(crate) answer: u8,
     pub(crate) left: u64,
@@ -93,14 +95,14 @@ pub(crate) struct Ruling {
 }
 
 // A verdict, and the address that it is about where a packet fails.
-#[derive(Drop)]
+#[derive(Clone, Copy)]
 pub(crate) struct Located {
     pub(crate) ruling: Ruling,
     pub(crate) address: u64,
 }
 
 // What a port does with a client's packet: it may not go there, it leaves the domain, or it goes to a switch.
-#[derive(Drop)]
+#[derive(Clone, Copy)]
 pub enum Onward {
     Foreign,
     Leaves,
@@ -108,7 +110,7 @@ pub enum Onward {
 }
 
 // How a packet's way ends.
-#[derive(Drop)]
+#[derive(Clone, Copy)]
 pub(crate) enum Ending {
     Arrived,
     Lost(u32),
@@ -118,7 +120,7 @@ pub(crate) enum Ending {
 
 // What becomes of a packet at a switch: nothing bad, with what is left of the budget; the budget is spent; it crosses a
 // link that its client may not use; it goes on to a switch.
-#[derive(Drop)]
+#[derive(Clone, Copy)]
 pub(crate) enum Trial {
     Passes(u64),
     Spent,

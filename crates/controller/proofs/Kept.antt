@@ -51,7 +51,7 @@ module _ (id n : ℕ) (p : Playbook) where
   pub setup-kept : (setup_of id n p).answer ≡ 0 → stored_ok p ≡ true → controller_ok (setup_of id n p).state ≡ true
   setup-kept h s = let g = setup-good h in rw g.1 (fresh_kept g.0 s)
 
-  -- with a playbook such as no reader stores the state is past its limits, so by `past-refused` every call refuses it
+  -- with a playbook such as no reader stores the state is past its limits, so by `past_refused` every call refuses it
   pub setup_unread : stored_ok p ≡ false → controller_ok (fresh id n p) ≡ false
   unfolding controller_ok
   setup_unread s = rw (s, and-false)

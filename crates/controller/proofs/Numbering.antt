@@ -100,7 +100,7 @@ module _ (acknowledged : List ℕ) (last : ℕ) where
         known = f.known;
         above = ltb-true _ _ e;
         given = omega (arith, f.given);
-        from_1 = f.from-1;
+        from_1 = f.from_1;
         first = f.first;
         formed = f.formed;
       })

@@ -28,8 +28,8 @@ module _ (keys : List ℕ) where
   quiet_stays : {c : Controller} {x : Call} {r : Reply} → Moves keys c x r → Quiet r.answer x → r.state ≡ c
   quiet_stays stays q = refl
   quiet_stays {c} (takes_acknowledgement_lem {bytes} {s} {number} a above) q =
-      absurd (q.no-acknowledgement bytes s c.id number refl a.message)
-  quiet_stays (takes_decision {s} {serial} {cause} d) q = absurd (q.no-decision s serial cause refl refl)
+      absurd (q.no_acknowledgement bytes s c.id number refl a.message)
+  quiet_stays (takes_decision {s} {serial} {cause} d) q = absurd (q.no_decision s serial cause refl refl)
 
   -- every call of a list is such a one
   abbrev pub AllQuiet : Controller → List Call → Type 0

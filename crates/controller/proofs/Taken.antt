@@ -16,7 +16,7 @@ use Rattle.message.specs.Senders.{sender_questions}
 use Rattle.message.specs.declared.End.TheVariants as ends
 use Rattle.message.specs.declared.Message.{Message}
 use Rattle.message.specs.declared.Message.TheVariants.{Event, Acknowledgement}
-use Rattle.message.proofs.Ends.{by-controller, from_10}
+use Rattle.message.proofs.Ends.{by_controller, from_10}
 use Rattle.controller.specs.States.{unchanged, controller_ok, state_questions}
 use Rattle.controller.specs.Acknowledgements.{acknowledged_of, serial_of, acknowledge, offers}
 use Rattle.controller.specs.Acknowledgements.{take_acknowledgement, take_event}
@@ -82,7 +82,7 @@ module _ (c : Controller) (keys bytes : List ℕ) where
   unfolding received_by
   received =
       reply-from Replies 10 _ _ _ refl (λ k h. refused h)
-      (λ state. by-controller bytes
+      (λ state. by_controller bytes
       (λ l kind d. rw d (reply-from Replies 10 _ _ _ refl (λ k h. refused h) (event-taken state d)))
       (λ l kind d. rw d (reply-from Replies 10 _ _ _ refl (λ k h. refused h) (acknowledgement-taken state d)))
       (λ k h d. rw d (refused (from_10 h))))

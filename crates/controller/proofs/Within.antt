@@ -87,7 +87,7 @@ module _ (acknowledged : List ℕ) (last : ℕ) (u : Undone) where
         lt-ltb _ _ f.known,
         lt-ltb _ _ f.above,
         le-leb _ _ f.given,
-        le-leb _ _ f.from-1,
+        le-leb _ _ f.from_1,
         le-leb _ _ f.first,
         f.formed,
       )

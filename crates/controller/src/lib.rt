@@ -1,6 +1,8 @@
 // The controller end (document 01, "Controller end"): its state by value, events offered, acknowledgements and
 // decisions taken, and the share of a switch's ready change written. Every call takes every state, byte string and
 // number.
+#![tactic(auto)]
+
 use flow::Rule;
 use playbook::Playbook;
 
@@ -22,7 +24,7 @@ pub use writing::write_share;
 
 // A change that was given a number and is not done: its number, its decision's first number, and what the playbook
 // says of it.
-#[derive(Drop)]
+#[derive(Clone, Copy)]
 pub struct Undone {
     pub number: u32,
     pub first: u32,
@@ -32,7 +34,7 @@ pub struct Undone {
 }
 
 // The undone changes: the first `count` places are in use, by rising number.
-#[derive(Drop)]
+#[derive(Clone, Copy)]
 pub struct Held {
     pub changes: [Undone; limits::UNDONE],
     pub count: usize,
@@ -40,7 +42,7 @@ pub struct Held {
 
 // The parts of a state that calls move: for each switch the highest number acknowledged and the last decided serial,
 // the last number given, and the undone changes.
-#[derive(Drop)]
+#[derive(Clone, Copy)]
 pub struct Progress {
     pub acknowledged: [u32; limits::PLACES],
     pub serials: [u32; limits::PLACES],
@@ -49,7 +51,7 @@ pub struct Progress {
 }
 
 // A controller: its id, the number of controllers, the playbook, and how far it has come.
-#[derive(Drop)]
+#[derive(Clone, Copy)]
 pub struct Controller {
     pub id: u8,
     pub n: u8,
@@ -58,14 +60,14 @@ pub struct Controller {
 }
 
 // What a call offers for agreement: an event that was received, or nothing.
-#[derive(Drop)]
+#[derive(Clone, Copy)]
 pub enum Offer {
     Nothing,
     Event { switch: u8, serial: u32, cause: u8 },
 }
 
 // What a call gives: its answer, what it offers, and the state that the next call gets.
-#[derive(Drop)]
+#[derive(Clone, Copy)]
 pub struct Reply {
     pub answer: u8,
     pub offer: Offer,
@@ -75,7 +77,7 @@ pub struct Reply {
 // What a call does: its answer, what it offers, and the moving parts as they are afterwards. The rest of the state,
 // most of it the playbook, stays where it is; so each call puts the parts into its own state, since a function that did
 // it for them would copy the whole.
-#[derive(Drop)]
+#[derive(Clone, Copy)]
 pub(crate) struct Moved {
     pub answer: u8,
     pub offer: Offer,
@@ -83,7 +85,7 @@ pub(crate) struct Moved {
 }
 
 // The ready change of a switch, or none.
-#[derive(Drop)]
+#[derive(Clone, Copy)]
 pub(crate) enum Ready {
     Nothing,
     Change(Undone),

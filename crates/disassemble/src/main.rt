@@ -1,12 +1,18 @@
 // Prints the notation of a rehearsal (docs/NOTATION.md): reads its bytes from standard input whole and writes the text
 // that stands for them to standard output.
+#![tactic(auto)]
+
 mod fields;
 
 ghost use Rattle.std.specs.Prelude.{◌≡◌, ◌+◌, length};
 ghost use Rattle.notation.specs.Limits.{input_limit};
 
 use fields::{say_bytes, say_fields, say_name};
-use libc::{STDERR_FILENO, STDIN_FILENO};
+
+const STDIN_FILENO: i32 = 0;
+
+const STDERR_FILENO: i32 = 2;
+
 use lists::byte_at;
 use notation::{INPUT, LINE, kinds};
 use prose::{OUT, say, say_number};

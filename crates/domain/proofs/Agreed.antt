@@ -61,7 +61,7 @@ module _ (S : Setting) (ok : Valid S) (ranged : InRange (playbook S)) where
         let t = and_parts (ltb 0 j && ltb j k) _ e in
         let u = and_parts (ltb 0 j) (ltb j k) t.0 in
         (ltb-true _ _ u.0, ltb-true _ _ u.1);
-    in_turn_lem = λ k j g positive low e.
+    in_turn = λ k j g positive low e.
         and_join _ _ (and_join _ _ (lt-ltb 0 j positive) (lt-ltb j k low))
         (or_left (same_switch (change_of (agreed S) k) (change_of (agreed S) j)) _ (eq-eqb _ _ e));
     same_sound = rule_sound;

@@ -3,7 +3,7 @@
 -- Assumes nothing.
 use mathlib.Core.Path.{◌≡◌, refl, sym, ap, ap₂, ◌∙◌, subst}
 use mathlib.Core.List.{List, ◌∷◌, ◌++◌}
-use Prim.Native.Nat.{ℕ, ◌+◌, ◌-◌, ◌*◌, ◌<◌}
+use Prim.Native.Nat.{ℕ, ◌*◌, ◌<◌}
 use native.Mathlib.Omega.{arith}
 use lib.Dec.{ltb, eqb}
 use lib.ListN.{length, get_or, set}
@@ -19,7 +19,7 @@ use Rattle.message.specs.Reading.{decode}
 use Rattle.message.specs.Senders.{sender_questions}
 use Rattle.message.specs.declared.End.TheVariants as ends
 use Rattle.message.specs.declared.Message.TheVariants.{Event, Share, Acknowledgement, Refused}
-use Rattle.message.proofs.Ends.{by-controller}
+use Rattle.message.proofs.Ends.{by_controller}
 use Rattle.message.proofs.Written.{Sent}
 use Rattle.playbook.specs.Printing.{InRange}
 use Rattle.controller.specs.Changes.{undone_of}
@@ -41,7 +41,7 @@ use Rattle.protocol.proofs.Worlds as protocol-worlds
 use Rattle.protocol.proofs.Steps.{other_stays}
 use Rattle.protocol.proofs.Families.{upd_same, upd_other, upd_self, upd_ap}
 use Rattle.domain.specs.Settings.{Decision, Setting, Valid, playbook, controller_keys}
-use Rattle.domain.specs.Calls.{Call, at_controller, Run, controller_writes, step}
+use Rattle.domain.specs.Calls.{at_controller, Run, controller_writes, step}
 use Rattle.domain.specs.Premises.{Unforged, decision_in, is_brought}
 use Rattle.domain.specs.Premises as premises
 use Rattle.domain.proofs.View.{domain_of, view_controller, said, messages, made_so, view, is_from, seen, Seen}
@@ -201,7 +201,7 @@ module _ (S : Setting) (v : Valid S) (r : Run) (c : ℕ) (known : c < S.n) (ds :
         → Seen S r (at_controller c (controller-calls.receives bytes))
     unfolding seen
     received_seen honest =
-        by-controller bytes
+        by_controller bytes
         (λ long kind d. event_seen _ _ _ _ d)
         (λ long kind d. read_seen _ _ _ d honest)
         (λ k h d. record { is = rw d (left_unseen (not-read k d) ∙ sym (other_stays D (view r))); allowed = rw d tt })

@@ -20,7 +20,7 @@ use Rattle.message.specs.Senders.{sender_questions}
 use Rattle.message.specs.declared.End.TheVariants as ends
 use Rattle.message.specs.declared.Message.TheVariants.{Share, Refused}
 use Rattle.message.specs.Writing.{encode}
-use Rattle.message.proofs.Ends.{by-switch, share-number, from_10, decode-event}
+use Rattle.message.proofs.Ends.{by_switch, share-number, from_10, decode-event}
 use Rattle.message.proofs.Lengths.{encode-length}
 use Rattle.switch.specs.Slots.{slot_for}
 use Rattle.switch.specs.States.{unchanged}
@@ -40,7 +40,7 @@ use Rattle.protocol.proofs.Worlds as protocol-worlds
 use Rattle.protocol.proofs.Families.{upd_at, upd_ap}
 use Rattle.protocol.proofs.Steps.{other_stays}
 use Rattle.domain.specs.Settings.{Setting, Valid, switch_keys}
-use Rattle.domain.specs.Calls.{Call, at_switch, Run, switch_writes, step}
+use Rattle.domain.specs.Calls.{at_switch, Run, switch_writes, step}
 use Rattle.domain.specs.Premises.{Unforged}
 use Rattle.domain.specs.Premises as premises
 use Rattle.domain.proofs.View.{domain_of, view_slot, view_switch, view_reply, said, messages, made_in, made_so, view, seen}
@@ -175,7 +175,7 @@ module _ (S : Setting) (v : Valid S) (r : Run) (s : ℕ) (l : s < 16) (f : Switc
     pub received_seen : Unforged S r (at_switch s (receives bytes)) → Seen S r (at_switch s (receives bytes))
     unfolding seen
     received_seen honest =
-        by-switch bytes
+        by_switch bytes
         (λ long kind d. read_seen _ _ _ _ d honest)
         (λ k h d.
         let no : received_by t keys bytes ≡ unchanged t k = not-read k d in

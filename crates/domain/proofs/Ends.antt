@@ -4,7 +4,7 @@
 use mathlib.Core.Path.{◌≡◌, refl, sym, ap, ◌∙◌}
 use mathlib.Core.Bool.{true, not}
 use mathlib.Core.List.{List, [], ◌∷◌, ◌++◌, append-nil}
-use Prim.Native.Nat.{ℕ, ◌+◌, ◌≤◌, ◌<◌}
+use Prim.Native.Nat.{ℕ, ◌≤◌, ◌<◌}
 use native.Mathlib.Omega.{arith}
 use lib.Dec.{leb, eqb}
 use lib.ListN.{length, set, length-append, length-set}
@@ -60,18 +60,18 @@ module _ (S : Setting) where
         id = rw is;
         n = rw is;
         ok = switch_kept.setup-kept s S.n (rw is);
-        slots = switch_kept.setup-slots s S.n;
+        slots = switch_kept.setup_slots s S.n;
       }
 
   pub switch-after : (keys : List ℕ) (s : ℕ) (t : Switch) (x : switch-calls.Call) → SwitchFine s t
       → SwitchFine s (switch-calls.reply_to keys t x).state
   switch-after keys s t x f =
-      let names = switch_kept.call-names keys t x in
+      let names = switch_kept.call_names keys t x in
       record {
         id = names.0 ∙ f.id;
         n = names.1 ∙ f.n;
         ok = switch_kept.call_kept keys t x f.ok;
-        slots = switch_kept.call-slots keys t x ∙ f.slots;
+        slots = switch_kept.call_slots keys t x ∙ f.slots;
       }
 
   -- a controller that has come along the list as far as a

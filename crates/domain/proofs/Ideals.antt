@@ -52,7 +52,7 @@ module _ (S : Setting) (v : Valid S) (ranged : InRange (playbook S)) where
       omega (arith, ltb-true w.number u.number t.0, (change-fine S v ranged k n.agreed).numbered) in
       let waits : D.waits k (i + 1) ≡ true =
       and_join _ _ (and_join _ _ (lt-ltb 0 (i + 1) (omega arith)) (lt-ltb (i + 1) k low)) (rw place t.1) in
-      or_right (not (waits_for u w)) _ (rw number (n.none-skipped (i + 1) waits)))
+      or_right (not (waits_for u w)) _ (rw number (n.none_skipped (i + 1) waits)))
       (λ e. rw e))
 
   feed-next : (k : ℕ) (ks : List ℕ) (i : Ideal) → Next D k ks → Fed ks i → Fed (k ∷ ks) (feed (agreed S) i k)

@@ -82,12 +82,12 @@ acknowledgement-there s c e l = rw e (Memᴰ.head refl)
 pub share_said_lem : {log : List Done} {c s : ℕ} {bytes : List ℕ} → ControllerWrote log c s bytes → {i t k : ℕ}
     {rule : Rule} → decode ends.Switch bytes ≡ Share i t k rule
     → Memᴰ (protocol-worlds.share c s k rule) (messages log)
-share_said_lem {log} {c} {s} (premises.by-controller h) e = said_in _ _ (share-there c s e) log h
+share_said_lem {log} {c} {s} (premises.by_controller h) e = said_in _ _ (share-there c s e) log h
 
 pub acknowledgement_said_lem : {log : List Done} {s c : ℕ} {bytes : List ℕ} → SwitchWrote log s c bytes → {i t k : ℕ}
     → decode ends.Controller bytes ≡ Acknowledgement i t k
     → Memᴰ (protocol-worlds.acknowledgement s c k) (messages log)
-acknowledgement_said_lem {log} {s} {c} (premises.by-switch h) e = said_in _ _ (acknowledgement-there s c e) log h
+acknowledgement_said_lem {log} {s} {c} (premises.by_switch h) e = said_in _ _ (acknowledgement-there s c e) log h
 
 -- question 14 is the tag's own equation
 pub sealed_tagged : (key bytes : List ℕ) → is_sealed key bytes ≡ true → Tagged key bytes

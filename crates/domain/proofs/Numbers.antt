@@ -128,7 +128,9 @@ unfolding highest among
 highest_in [] h = absurd (omega arith)
 highest_in (j ∷ ks) h =
     by_bool (ltb (highest ks) j) (λ l. rw l (or_left (eqb j j) _ (eq-eqb j j refl)))
-    (λ l. rw l (or_right (eqb j (highest ks)) _ (highest_in ks (rw l at h))))
+    (λ l. let e : highest (j ∷ ks) ≡ highest ks = rw l refl in
+    subst (λ m. is_among m (j ∷ ks) ≡ true) (sym e)
+    (or_right (eqb j (highest ks)) _ (highest_in ks (subst (λ m. 0 < m) e h))))
 
 pub highest_is : (ks : List ℕ) (m : ℕ) → ((k : ℕ) → is_among k ks ≡ true → k ≤ m) → (0 < m → is_among m ks ≡ true)
     → m ≡ highest ks

@@ -23,7 +23,6 @@ use Rattle.switch.specs.Calls as switch-calls
 use Rattle.switch.specs.Calls.{receives, writes, manages}
 use Rattle.switch.specs.Slots.{empty_slot}
 use Rattle.switch.specs.declared.Reply as switch-reply
-use Rattle.switch.specs.declared.Switch.{Switch}
 use Rattle.switch.proofs.Effects.{answered_1}
 use Rattle.controller.specs.Calls as controller-calls
 use Rattle.controller.specs.declared.Reply as controller-reply
@@ -44,7 +43,7 @@ use Rattle.domain.proofs.View.{seen, Seen}
 use Rattle.domain.proofs.Agreed.{laws}
 use Rattle.domain.proofs.Ends.{SwitchFine, switch-start, switch-after, ControllerFine, controller-start}
 use Rattle.domain.proofs.Ends.{course_of, reception_after, writing_after, decision_after, decision_took}
-use Rattle.domain.proofs.AtSwitch as at_switch_lem
+use Rattle.domain.proofs.AtSwitch as at-switch
 use Rattle.domain.proofs.AtController as at-controller
 
 -- a list of one value has it at every place, and as the value past its end
@@ -72,10 +71,10 @@ module _ (S : Setting) where
   brought_grows r c (at_controller i x) = (_, refl)
 
   module _ (test : ℕ → Bool) (r : Run) (c : ℕ) where
-    by-switch : (s : ℕ) (x : switch-calls.Call)
+    by_switch : (s : ℕ) (x : switch-calls.Call)
         → decisions test c (step S r (at_switch s x)).log ≡ decisions test c r.log
     unfolding step decisions
-    by-switch s x = append-nil (decisions test c r.log)
+    by_switch s x = append-nil (decisions test c r.log)
 
     pub by_other : (i : ℕ) (x : controller-calls.Call) → (i ≡ c → ⊥)
         → decisions test c (step S r (at_controller i x)).log ≡ decisions test c r.log
@@ -101,7 +100,7 @@ module _ (S : Setting) where
   -- and a beginning of a list of calls within the premises is within them
   pub premises_before : (xs ys : List Call) → Premises S (xs ++ ys) → Premises S xs
   premises_before xs ys p = record {
-    in_run_lem = (every_append (step S) (InRun S) (start S) xs ys p.in-run).0;
+    in_run = (every_append (step S) (InRun S) (start S) xs ys p.in_run).0;
     unforged = (every_append (step S) (Unforged S) (start S) xs ys p.unforged).0;
     beginning = begun_early (run (step S) (start S) xs) ys (rw (run-append (step S) (start S) xs ys) at p.beginning);
   }
@@ -170,19 +169,19 @@ module _ (S : Setting) where
       -- every call is the protocol's
       pub call_seen : (x : Call) → InRun S r x → Unforged S r x → Begun (step S r x) → Seen S r x
       call_seen (at_switch s (receives bytes)) l honest begun =
-          at_switch_lem.received-seen S v r s l (R.switches s l) bytes honest
+          at-switch.received_seen S v r s l (R.switches s l) bytes honest
       call_seen (at_switch s (writes kind c frame at)) l honest begun =
-          at_switch_lem.writing-seen S v r s l (R.switches s l) c frame at (last_small s) kind
-      call_seen (at_switch s (manages m)) l honest begun = at_switch_lem.managed-seen S v r s l (R.switches s l) m
+          at-switch.writing_seen S v r s l (R.switches s l) c frame at (last_small s) kind
+      call_seen (at_switch s (manages m)) l honest begun = at-switch.managed_seen S v r s l (R.switches s l) m
       call_seen (at_controller c (controller-calls.receives bytes)) keeps honest begun =
-          at-controller.received-seen S v r c keeps.0 _ (R.controllers c keeps) bytes honest
+          at-controller.received_seen S v r c keeps.0 _ (R.controllers c keeps) bytes honest
       call_seen (at_controller c (controller-calls.writes_share s frame at)) keeps honest begun =
           let b = begun_before r (at_controller c (controller-calls.writes_share s frame at)) begun c keeps in
-          at-controller.share-written-seen S v r c keeps.0 _ (R.controllers c keeps) ranged b.0 b.1 s frame at
+          at-controller.share-written_seen S v r c keeps.0 _ (R.controllers c keeps) ranged b.0 b.1 s frame at
       call_seen (at_controller c (controller-calls.manages (controller-calls.decides s serial cause))) keeps honest
           begun =
           let b = begun c keeps in
-          at-controller.decision-seen S v r c keeps.0 _ (R.controllers c keeps) s serial cause b.0
+          at-controller.decision_seen S v r c keeps.0 _ (R.controllers c keeps) s serial cause b.0
           (unfold step decisions in b.1)
 
       -- and leaves the ends as they should be
@@ -206,7 +205,7 @@ module _ (S : Setting) where
 
       controllers-after : (x : Call) → InRun S r x → (c : ℕ) → Keeps S c
           → ControllerFine S c (brought c (step S r x).log) ((step S r x).controllers c)
-      controllers-after (at_switch s x) h c keeps = rw (by-switch _ r c s x) (unfold step in R.controllers c keeps)
+      controllers-after (at_switch s x) h c keeps = rw (by_switch _ r c s x) (unfold step in R.controllers c keeps)
       controllers-after (at_controller i x) h c keeps = unfold step in
           upd_at (λ c t. Keeps S c → ControllerFine S c (brought c (step S r (at_controller i x)).log) t)
           r.controllers i _ c (λ k. itself_after i x k)
@@ -223,7 +222,7 @@ module _ (S : Setting) where
 
       took_after : (x : Call) (c : ℕ) → Keeps S c
           → course_of S (brought c (step S r x).log) ≡ course_of S (taken c (step S r x).log)
-      took_after (at_switch s x) c keeps = rw (by-switch _ r c s x, by-switch _ r c s x) (R.took c keeps)
+      took_after (at_switch s x) c keeps = rw (by_switch _ r c s x, by_switch _ r c s x) (R.took c keeps)
       took_after (at_controller i x) c keeps =
           by_eq i c (λ e. subst (λ (j : ℕ). course_of S (brought c (step S r (at_controller j x)).log)
           ≡ course_of S (taken c (step S r (at_controller j x)).log)) (sym e) (took_itself c x keeps))
@@ -301,7 +300,7 @@ module _ (S : Setting) where
         }
 
     pub run_reached : (calls : List Call) → Premises S calls → Reached (run (step S) (start S) calls)
-    run_reached calls p = (walk (start S) start_reached calls p.in-run p.unforged p.beginning).reached
+    run_reached calls p = (walk (start S) start_reached calls p.in_run p.unforged p.beginning).reached
 
     -- what a fresh run has and each call within the premises keeps, every run within them has
     module _ (Q : Run → Type 0) (keep : (r : Run) → Reached r → (x : Call) → InRun S r x → Unforged S r x
@@ -315,4 +314,4 @@ module _ (S : Setting) where
           (keep r R x h.0 honest.0 b q)
 
       pub run-keeps : Q (start S) → (calls : List Call) → Premises S calls → Q (run (step S) (start S) calls)
-      run-keeps q calls p = walk_keeps (start S) start_reached calls p.in-run p.unforged p.beginning q
+      run-keeps q calls p = walk_keeps (start S) start_reached calls p.in_run p.unforged p.beginning q

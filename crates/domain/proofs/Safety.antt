@@ -101,7 +101,7 @@ module _ (S : Setting) (v : Valid S) (r : Run) (R : Reached S r) where
     in_order = in_order.none;
     by_number = by_number.none;
     tables = λ s l. tables_are s ∙ sym (in_order.tables s);
-    tables-by_number = λ s l.
+    tables_by_number = λ s l.
         tables_are s
         ∙ sym (falling-tables D (laws S v (ranged S v)) (answered S r) lawful s) ∙ sym (by_number.tables s);
     lasts = λ s l. highest-made s;

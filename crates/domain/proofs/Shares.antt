@@ -19,7 +19,7 @@ use Rattle.flow.specs.declared.Rule.{Rule}
 use Rattle.flow.specs.declared.Table.{Table}
 use Rattle.switch.specs.Slots.{empty_slot, slot_empty, holds, agreeing, is_quorum, emptied}
 use Rattle.switch.specs.States.{unchanged, switch_ok}
-use Rattle.switch.specs.Shares.{slot_of, share_questions, stored, applied, accepted, take_share}
+use Rattle.switch.specs.Shares.{slot_of, stored, applied, accepted, take_share}
 use Rattle.switch.specs.declared.Slot.{Slot}
 use Rattle.switch.specs.declared.Switch.{Switch}
 use Rattle.switch.proofs.Agreement.{agreeing-count}

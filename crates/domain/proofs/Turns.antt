@@ -1,13 +1,15 @@
 -- Full rounds of a run are full rounds of the protocol: a moment of the one is a moment of the other, and what is
 -- delivered in the one is delivered in the other. Assumes nothing.
 use mathlib.Core.Path.{◌≡◌, refl, sym, ap, ◌∙◌, subst}
-use mathlib.Core.Bool.{false}
+use mathlib.Core.Bool.{true, false}
 use mathlib.Core.List.Memᴰ
 use mathlib.Core.List.{List, [], ◌∷◌, ◌++◌, Memᴰ}
 use mathlib.Core.Logic.{inl, inr, ⊎_elim}
 use Prim.Native.Nat.{ℕ, zero, suc, ◌<◌}
 use Rattle.flow.specs.declared.Rule.{Rule}
 use Rattle.flow.specs.declared.Table.{Table}
+use Rattle.message.specs.Writing.{encode, is_message}
+use Rattle.message.specs.declared.Message.{Message}
 use Rattle.switch.specs.Calls as switch-calls
 use Rattle.controller.specs.Calls as controller-calls
 use Rattle.protocol.specs.Runs.{run, Every, Sometime, Rounds}
@@ -45,29 +47,29 @@ module _ (S : Setting) (v : Valid S) where
 
   -- a list of calls from a state on, within the premises
   pub record Fair (r : Run) (xs : List Call) : Type 0 where
-    pub in_run_lem : Every (step S) (InRun S) r xs
+    pub in_run : Every (step S) (InRun S) r xs
     pub unforged : Every (step S) (Unforged S) r xs
     pub begun : Begun S (run (step S) r xs)
 
   pub premises_fair : (xs : List Call) → Premises S xs → Fair (start S) xs
-  premises_fair xs p = record { in_run_lem = p.in-run; unforged = p.unforged; begun = p.beginning }
+  premises_fair xs p = record { in_run = p.in_run; unforged = p.unforged; begun = p.beginning }
 
   pub fair_first : (r : Run) (xs ys : List Call) → Fair r (xs ++ ys) → Fair r xs
   fair_first r xs ys f = record {
-    in_run_lem = (every_append (step S) (InRun S) r xs ys f.in-run).0;
+    in_run = (every_append (step S) (InRun S) r xs ys f.in_run).0;
     unforged = (every_append (step S) (Unforged S) r xs ys f.unforged).0;
     begun = begun_early S (run (step S) r xs) ys (rw (run-append (step S) r xs ys) at f.begun);
   }
 
   pub fair_rest : (r : Run) (xs ys : List Call) → Fair r (xs ++ ys) → Fair (run (step S) r xs) ys
   fair_rest r xs ys f = record {
-    in_run_lem = (every_append (step S) (InRun S) r xs ys f.in-run).1;
+    in_run = (every_append (step S) (InRun S) r xs ys f.in_run).1;
     unforged = (every_append (step S) (Unforged S) r xs ys f.unforged).1;
     begun = rw (run-append (step S) r xs ys) at f.begun;
   }
 
   pub walked : (r : Run) → Reached S r → (xs : List Call) → Fair r xs → Walked S v r xs
-  walked r R xs f = walk S v r R xs f.in-run f.unforged f.begun
+  walked r R xs f = walk S v r R xs f.in_run f.unforged f.begun
 
   -- a run of two lists is seen one after the other
   seen_append : (r : Run) (xs ys : List Call)
@@ -94,11 +96,15 @@ module _ (S : Setting) (v : Valid S) where
   moment_seen P Q now r R [] f h = now r R f.begun [] h
   moment_seen P Q now r R (x ∷ xs) f h =
       let b = begun_early S (step S r x) xs f.begun in
-      let s = call_seen S v r R x f.in-run.0 f.unforged.0 b in
-      let R2 = call_reached S v r R x f.in-run.0 f.unforged.0 b in
+      let s = call_seen S v r R x f.in_run.0 f.unforged.0 b in
+      let R2 = call_reached S v r R x f.in_run.0 f.unforged.0 b in
       ⊎_elim (λ p. inl (now r R (begun_early S r (x ∷ xs) f.begun) (x ∷ xs) p))
       (λ q. inr (subst (λ w. Sometime (protocol-worlds.step D) Q w (calls (step S r x) xs)) s.is
       (moment_seen P Q now (step S r x) R2 xs (fair_rest r (x ∷ []) xs f) q))) h
+
+  -- what a delivery says of a moment
+  abbrev Brings : List ℕ → (Run → Message) → (List ℕ → Call) → Run → List Call → Type 0
+  Brings key now receives u rest = is_message (now u) ≡ true → Memᴰ (receives (encode key (now u))) rest
 
   -- the acknowledgement of a number's switch is among the calls still to come
   abbrev Told : ℕ → ℕ → World → Calls → Type 0
@@ -113,7 +119,8 @@ module _ (S : Setting) (v : Valid S) where
   told_seen c l r R xs f told k a =
       let s = D.switch k in
       let known = (change-fine S v (ranged S v) k a).known in
-      moment_seen _ (Told c k)
+      moment_seen (Brings (S.key c s) (λ u. acknowledgement_now u s c)
+      (λ bytes. at_controller c (controller-calls.receives bytes))) (Told c k)
       (λ u U begun rest p.
       let fine = U.switches s known in
       seen_there _ _ (acknowledgement-delivered S v u s c known l fine (last_small S v u U s)) u rest (p refl))
@@ -130,7 +137,8 @@ module _ (S : Setting) (v : Valid S) where
       (λ bytes. at_switch (D.switch k) (switch-calls.receives bytes)) r xs
       → Sometime (protocol-worlds.step D) (Comes c k) (view r) (calls r xs)
   shared_seen c keeps r R xs f k shared =
-      moment_seen _ (Comes c k)
+      moment_seen (Brings (S.key c (D.switch k)) (λ u. share_now u c (D.switch k))
+      (λ bytes. at_switch (D.switch k) (switch-calls.receives bytes))) (Comes c k)
       (λ u U begun rest p ready.
       let b = begun c keeps in
       let fine = U.controllers c keeps in

@@ -44,7 +44,7 @@ never e = absurd (omega arith)
 -- one call more
 wrote_more : {log : List Done} {c s : ℕ} {bytes : List ℕ} (d : Done) → ControllerWrote log c s bytes
     → ControllerWrote (d ∷ log) c s bytes
-wrote_more d (premises.by-controller h) = premises.by-controller (Memᴰ.tail h)
+wrote_more d (premises.by_controller h) = premises.by_controller (Memᴰ.tail h)
 
 -- a share among the messages was written
 module _ (c s k : ℕ) (rule : Rule) where
@@ -97,7 +97,7 @@ module _ (c s k : ℕ) (rule : Rule) where
       (λ e. ⊎_elim inl
       (λ r. inr (record {
         bytes = bytes;
-        wrote = premises.by-controller {frame = frame} {at = at} (Memᴰ.head (λ q. record {
+        wrote = premises.by_controller {frame = frame} {at = at} (Memᴰ.head (λ q. record {
           call = at_controller (sym r.0 q) (writes_share (sym r.1 q) frame at);
           answer = sym (eqb-true answer 0 e) q;
           written = bytes;
@@ -152,13 +152,13 @@ module _ (S : Setting) (v : Valid S) where
 
       -- what a controller wrote it wrote before
       before : {c t : ℕ} {own : List ℕ} → ControllerWrote (step S r x).log c t own → ControllerWrote r.log c t own
-      before {c} {t} (premises.by-controller {frame} {at} m) =
+      before {c} {t} (premises.by_controller {frame} {at} m) =
           ⊎_elim
           (λ e.
           let other : at_controller c (writes_share t frame at) ≡ at_switch s (receives bytes) =
           ap (λ (d : Done). d.call) (e ∙ sym is) in
           never cc)
-          (λ t. premises.by-controller t) (Memᴰ.cases_cons (rw (logged S r x) at m))
+          (λ t. premises.by_controller t) (Memᴰ.cases_cons (rw (logged S r x) at m))
 
       voucher : Voucher S r.log s bytes
       voucher =

@@ -9,7 +9,6 @@ use native.Mathlib.Omega.{arith}
 use lib.ListN.{length, drop}
 use lib.Seq.{drop-drop}
 use Rattle.flow.specs.declared.Rule.{Rule}
-use Rattle.lists.specs.Bytes.{part}
 use Rattle.message.specs.Keys.{key_at}
 use Rattle.message.specs.Reading.{decode}
 use Rattle.message.specs.Writing.{encode}
@@ -132,29 +131,29 @@ module _ (S : Setting) where
 
     controller_more : Named r.log → (x : Call) (c s : ℕ) (bytes : List ℕ) → Keeps S c
         → ControllerWrote (latest r x ∷ r.log) c s bytes → FromController c s (decode ends.Switch bytes)
-    controller_more named x c s bytes keeps (premises.by-controller {frame} {at} h) =
+    controller_more named x c s bytes keeps (premises.by_controller {frame} {at} h) =
         ⊎_elim
         (λ e. let here = latest_is x (at_controller c (writes_share s frame at)) bytes e in
         rw here.1 (share-wrote r R frame at c s keeps here.0))
-        (λ t. named.shares c s bytes keeps (premises.by-controller t)) (Memᴰ.cases_cons h)
+        (λ t. named.shares c s bytes keeps (premises.by_controller t)) (Memᴰ.cases_cons h)
 
     switch_more : Named r.log → (x : Call) (s c : ℕ) (bytes : List ℕ) → s < 16
         → SwitchWrote (latest r x ∷ r.log) s c bytes → FromSwitch s c (decode ends.Controller bytes)
-    switch_more named x s c bytes l (premises.by-switch {kind} {frame} {at} h) =
+    switch_more named x s c bytes l (premises.by_switch {kind} {frame} {at} h) =
         ⊎_elim
         (λ e. let here = latest_is x (at_switch s (writes kind c frame at)) bytes e in
         rw here.1 (switch-wrote r R frame at kind s c l here.0))
-        (λ t. named.switches s c bytes l (premises.by-switch t)) (Memᴰ.cases_cons h)
+        (λ t. named.switches s c bytes l (premises.by_switch t)) (Memᴰ.cases_cons h)
 
     pub named_after : Named r.log → (x : Call) → Named (step S r x).log
     named_after named x =
         rw (logged r x) (record { shares = controller_more named x; switches = switch_more named x })
 
   none_wrote : {c s : ℕ} {bytes : List ℕ} → ControllerWrote [] c s bytes → ⊥
-  none_wrote (premises.by-controller h) = Memᴰ.not-nil h
+  none_wrote (premises.by_controller h) = Memᴰ.not-nil h
 
   none_said : {s c : ℕ} {bytes : List ℕ} → SwitchWrote [] s c bytes → ⊥
-  none_said (premises.by-switch h) = Memᴰ.not-nil h
+  none_said (premises.by_switch h) = Memᴰ.not-nil h
 
   pub start_named : Named (start S).log
   start_named = record {

@@ -78,7 +78,7 @@ module _ (S : Setting) where
     pub by_number : (fed agreed (falling (answered r))).refused ≡ []
     -- all flow tables equal the ideal ones
     pub tables : (s : ℕ) → s < switch_count → (r.switches s).table ≡ (fed agreed (answered r)).tables s
-    pub tables-by_number : (s : ℕ) → s < switch_count → (r.switches s).table ≡ (fed agreed (falling (answered r))).tables s
+    pub tables_by_number : (s : ℕ) → s < switch_count → (r.switches s).table ≡ (fed agreed (falling (answered r))).tables s
     -- each last applied number is the highest made there, or 0
     pub lasts : (s : ℕ) → s < switch_count → (r.switches s).last ≡ highest (numbers_at s (made r.log))
 

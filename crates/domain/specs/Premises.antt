@@ -24,12 +24,12 @@ Tagged key bytes = drop (length bytes - tag_length) bytes ≡ tag_of key (take (
 
 -- a message written in the run so far, by a writing answered 0: by switch s for controller c, and by c for s
 pub data SwitchWrote (log : List Done) (s c : ℕ) (bytes : List ℕ) : Type 0 where
-  by-switch : {kind : Kind} {frame : List ℕ} {at : ℕ}
+  by_switch : {kind : Kind} {frame : List ℕ} {at : ℕ}
       → Memᴰ (record { call = at_switch s (writes kind c frame at); answer = 0; written = bytes }) log
       → SwitchWrote log s c bytes
 
 pub data ControllerWrote (log : List Done) (c s : ℕ) (bytes : List ℕ) : Type 0 where
-  by-controller : {frame : List ℕ} {at : ℕ}
+  by_controller : {frame : List ℕ} {at : ℕ}
       → Memᴰ (record { call = at_controller c (writes_share s frame at); answer = 0; written = bytes }) log
       → ControllerWrote log c s bytes
 
@@ -88,7 +88,7 @@ module _ (S : Setting) where
   -- all premises on a list of calls: where they are, unforged tags, and decisions that are a beginning of the agreed
   -- list
   pub record Premises (calls : List Call) : Type 0 where
-    pub in_run_lem : Every (step S) InRun (start S) calls
+    pub in_run : Every (step S) InRun (start S) calls
     pub unforged : Every (step S) Unforged (start S) calls
     pub beginning : (c : ℕ) → Keeps S c
         → (rest : List Decision) × (S.agreed ≡ brought c (run (step S) (start S) calls).log ++ rest)

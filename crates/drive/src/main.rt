@@ -1,5 +1,7 @@
 // Makes the calls of a script at switches and controllers, and prints a line for each: the answer, what was found, the
 // frame and the fields of the state. tests/DRIVE.md tells the script and the lines.
+#![tactic(auto)]
+
 mod books;
 mod controllers;
 mod flow_mods;
@@ -12,7 +14,9 @@ ghost use Rattle.std.specs.Prelude.{◌≡◌, length};
 use answer::limits;
 use cases::{say, say_byte, say_size, u16_at};
 use controller::Controller;
-use libc::STDIN_FILENO;
+
+const STDIN_FILENO: i32 = 0;
+
 use lists::byte_at;
 use playbook::Playbook;
 use prose::OUT;
@@ -23,7 +27,7 @@ use switch::Switch;
 const SCRIPT: usize = 1048577;
 
 // The ends, the key store of each, and the playbook read last.
-#[derive(Drop)]
+#[derive(Clone, Copy)]
 struct World {
     switches: [Switch; limits::OF_SWITCHES],
     controllers: [Controller; limits::OF_CONTROLLERS],
@@ -33,7 +37,7 @@ struct World {
 }
 
 // What a letter calls for.
-#[derive(Drop)]
+#[derive(Clone, Copy)]
 enum Call {
     Unknown,
     AtSwitch,

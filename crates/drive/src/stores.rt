@@ -1,7 +1,7 @@
 // Key stores of any length up to one key more than a controller's.
 const SPACE: usize = 544;
 
-#[derive(Drop)]
+#[derive(Clone, Copy)]
 pub(crate) struct Store {
     pub(crate) bytes: [u8; SPACE],
     pub(crate) length: usize,

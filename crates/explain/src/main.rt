@@ -1,5 +1,7 @@
 // Explains a rehearsal: its playbook, each record in words beside document 01's line, the ends after the last one, and a
 // verdict.
+#![tactic(auto)]
+
 mod changes;
 mod codes;
 mod decisions;
@@ -20,7 +22,9 @@ ghost use Rattle.rehearsal.specs.Limits.{longest_input};
 use changes::APPLIED;
 use controller::Controller;
 use decisions::LISTS;
-use libc::STDIN_FILENO;
+
+const STDIN_FILENO: i32 = 0;
+
 use prose::{OUT, say, say_number};
 use rehearsal::{DEEDS, Deed, Told};
 use sets::ENDS;

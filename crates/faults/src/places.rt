@@ -9,7 +9,7 @@ const RECORDS: u32 = 578;
 
 // A record of a playbook: its ordinal from 1, where it begins and ends, and how many changes of its plan there are up to
 // it.
-#[derive(Drop)]
+#[derive(Clone, Copy)]
 pub(crate) struct Place {
     pub(crate) ordinal: u32,
     pub(crate) from: usize,

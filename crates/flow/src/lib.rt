@@ -1,5 +1,7 @@
 // Rules and the flow table of a switch (document 01, "Bytes"): well-formedness, a table's limits, room for a rule,
 // applying a rule, and lookup. Every function takes every value of its parameters' types.
+#![tactic(auto)]
+
 mod changes;
 mod lookups;
 mod rules;
@@ -13,14 +15,14 @@ pub use rules::{
 pub use tables::{empty_table, table_ok};
 
 // What a rule does: removes its entry, or sets it to a port.
-#[derive(Drop)]
+#[derive(Clone, Copy)]
 pub enum Action {
     Remove,
     Set(u16),
 }
 
 // A change to a flow table: the entry of a prefix and length is removed or set.
-#[derive(Drop)]
+#[derive(Clone, Copy)]
 pub struct Rule {
     pub prefix: u32,
     pub length: u8,
@@ -28,7 +30,7 @@ pub struct Rule {
 }
 
 // An entry of a flow table: the port of the addresses under a prefix.
-#[derive(Drop)]
+#[derive(Clone, Copy)]
 pub struct Entry {
     pub prefix: u32,
     pub length: u8,
@@ -36,21 +38,21 @@ pub struct Entry {
 }
 
 // A flow table: the first count entries are in use.
-#[derive(Drop)]
+#[derive(Clone, Copy)]
 pub struct Table {
     pub entries: [Entry; answer::limits::ENTRIES],
     pub count: usize,
 }
 
 // What applying a rule gives: 1 and the changed table, or a question's number and the table as it was.
-#[derive(Drop)]
+#[derive(Clone, Copy)]
 pub struct Applied {
     pub answer: u8,
     pub table: Table,
 }
 
 // What a lookup finds.
-#[derive(Drop)]
+#[derive(Clone, Copy)]
 pub enum Found {
     Port(u16),
     Nothing,

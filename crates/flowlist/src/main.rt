@@ -1,10 +1,14 @@
 // The FLOW_MODs that another maker's switch is fed, in words: reads standard input, one byte for the switch and then a
 // rehearsal, and prints a line for each rule that this switch applied, or one with the number of the refusal.
+#![tactic(auto)]
+
 ghost use Rattle.std.specs.Prelude.{◌≡◌, ◌+◌, ◌≤◌, length};
 ghost use Rattle.rehearsal.specs.Limits.{longest_input, most_lines};
 
 use flow::Action;
-use libc::STDIN_FILENO;
+
+const STDIN_FILENO: i32 = 0;
+
 use prose::{OUT, say, say_number};
 use switch::Slot;
 

@@ -1,11 +1,17 @@
 // The FLOW_MODs that another maker's switch is fed (document 02, N1): reads standard input, one byte for the switch and
 // then a rehearsal, and prints the FLOW_MOD of each rule that this switch applied. A refusal prints none, and tells its
 // number on standard error.
+#![tactic(auto)]
+
 ghost use Rattle.std.specs.Prelude.{◌≡◌, ◌+◌, length};
 ghost use Rattle.rehearsal.specs.Limits.{longest_input};
 ghost use Rattle.feed.specs.Mods.{most_fed};
 
-use libc::{STDERR_FILENO, STDIN_FILENO, STDOUT_FILENO};
+const STDIN_FILENO: i32 = 0;
+
+const STDOUT_FILENO: i32 = 1;
+
+const STDERR_FILENO: i32 = 2;
 
 // The switch's byte, and the longest rehearsal with one byte further.
 const SPACE: usize = 1 + rehearsal::INPUT;

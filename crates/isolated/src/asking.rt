@@ -53,7 +53,7 @@ fn left_by(asked: Asked, n: Network, p: Playbook, decisions: &[u8], budget: u64)
     }
 }
 
-#[derive(Drop)]
+#[derive(Clone, Copy)]
 struct Tally {
     fine: bool,
     left: u64,
@@ -69,7 +69,7 @@ fn left_at(asked: Asked, n: Network, p: Playbook, plans: usize, place: usize, bu
 }
 
 // The place of the first list that is not fine, or how many lists there are, with what those before it left.
-#[derive(Drop)]
+#[derive(Clone, Copy)]
 pub(crate) struct Stop {
     pub(crate) place: usize,
     pub(crate) left: u64,

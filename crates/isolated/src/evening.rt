@@ -6,14 +6,14 @@ use checker::limits::CHANGES;
 use checker::{CHANGED, LINKED, Line, Onward};
 
 // Where a packet crosses: the switch and the port, or port 0 where it crosses nowhere.
-#[derive(Drop)]
+#[derive(Clone, Copy)]
 pub(crate) struct Crossing {
     pub(crate) switch: u32,
     pub(crate) port: u32,
 }
 
 // What is lent beside the arrays.
-#[derive(Drop)]
+#[derive(Clone, Copy)]
 pub(crate) struct Counts {
     pub(crate) count: usize,
     pub(crate) linked: usize,

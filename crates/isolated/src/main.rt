@@ -2,6 +2,8 @@
 // and numbers, for bin/isolation to put into words. Input: how many decisions are tried in every order, or 0 for the list
 // given (1 byte), the settled number (4), the budget (4), how many bytes the network and the decisions have (2 each), the
 // network as `links` writes it, the decisions, and the playbook.
+#![tactic(auto)]
+
 mod asking;
 mod evening;
 mod facts;
@@ -11,7 +13,8 @@ mod trying;
 
 ghost use Rattle.std.specs.Prelude.{◌≡◌, ◌≤◌, length};
 
-use libc::STDIN_FILENO;
+const STDIN_FILENO: i32 = 0;
+
 use prose::OUT;
 
 // The header, the longest network, decisions and playbook, and one byte further.
@@ -26,7 +29,7 @@ fn for_input() -> [u8; SPACE]
 }
 
 // What is asked for beside network, decisions and playbook.
-#[derive(Drop)]
+#[derive(Clone, Copy)]
 pub(crate) struct Asked {
     pub(crate) any: usize,
     pub(crate) settled: usize,

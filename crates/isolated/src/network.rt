@@ -12,7 +12,7 @@ const LINK_SIZE: usize = 6;
 
 const CLIENT_SIZE: usize = 8;
 
-#[derive(Drop)]
+#[derive(Clone, Copy)]
 pub(crate) struct Network {
     pub(crate) links: [u32; LINKED],
     pub(crate) linked: usize,

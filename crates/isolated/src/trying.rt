@@ -11,7 +11,7 @@ const THREE: usize = 3 * DECISION;
 const TWO: usize = 2 * DECISION;
 
 // A list of decisions, six bytes each: the first `length` bytes are in use.
-#[derive(Drop)]
+#[derive(Clone, Copy)]
 pub(crate) struct Tried {
     pub(crate) bytes: [u8; THREE],
     pub(crate) length: usize,

@@ -99,7 +99,7 @@ module _ (us : List Undone) (covered : ℕ → Bool) where
         (λ i l.
         let v = get_or us i empty_undone in
         by_bool (waits_for (change_of us k) v)
-        (λ e. or_right (not (waits_for (change_of us k) v)) _ (a.none-skipped v (at_member us i empty_undone l) e))
+        (λ e. or_right (not (waits_for (change_of us k) v)) _ (a.none_skipped v (at_member us i empty_undone l) e))
         (λ e. rw e))
 
     -- from numbers that reach those of the set below k, the check comes to some that reach the set

@@ -91,5 +91,5 @@ module _ (us : List Undone) where
       let a = accepted ks k h in
       or_right (eqb k w.number) _
       (by_or (eqb k j) _ m
-      (λ e. a.none-skipped w there (rw (eqb-true k j e) waits))
+      (λ e. a.none_skipped w there (rw (eqb-true k j e) waits))
       (λ e. closed ks a.before j e w there waits))

@@ -126,7 +126,7 @@ module _ (us : List Undone) (numbers : (i : ℕ) → i < length us → (get_or u
         let between : (j : ℕ) → m < j → j ≤ m + (k - 1 - m) → on j ≡ false =
         λ j above below. is_false (on j) (λ oj.
         let there = rw (number_is us numbers j (omega arith) (omega (arith, a.high))) at
-        (a.none-skipped (change_of us j) (member us j (omega arith) (omega (arith, a.high)))
+        (a.none_skipped (change_of us j) (member us j (omega arith) (omega (arith, a.high)))
         (in_turn_lem j k (omega arith) (omega arith) a.high oj o)) in
         omega (arith, t.top j there oj)) in
         let up : m + (k - 1 - m) ≡ k - 1 = omega arith in (

@@ -103,7 +103,7 @@ module _ (S : Setting) (v : Valid S) where
   pub earlier : (before rest : List Call) → Premises S (before ++ rest) → Premises S before
   earlier before rest p =
       let f = fair_first S v (start S) before rest (premises_fair S v (before ++ rest) p) in
-      record { in_run_lem = f.in-run; unforged = f.unforged; beginning = f.begun }
+      record { in_run = f.in_run; unforged = f.unforged; beginning = f.begun }
 
   module _ (N : Network) (ok : network_ok N ≡ true) where
     pub traffic_ok_lem : (t : Traffic) → Memᴰ t N.traffic → traffic_ok t ≡ true
@@ -144,7 +144,7 @@ module _ (S : Setting) (v : Valid S) where
       always_wanted before rest p all =
           let safe = (demand3 S v).safe before (earlier before rest p) in
           ideal_wanted (answered S (run (step S) (start S) before)) safe.by_number
-          (λ k low high. falling-among k _ ∙ all k low high) _ safe.tables-by-number
+          (λ k low high. falling-among k _ ∙ all k low high) _ safe.tables_by_number
 
     -- to keep to its client's links for 16 switches is to keep to them for good
     kept_isolated : (tables : ℕ → Table) → Wanted (λ t. keeps_own) N tables → Isolated N tables

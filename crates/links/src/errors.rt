@@ -1,5 +1,5 @@
 // Text on standard error: words, numbers, prefixes, and a word of the text as far as it can be shown.
-use libc::STDERR_FILENO;
+const STDERR_FILENO: i32 = 2;
 
 // The most bytes of a word that are shown.
 const SHOWN: usize = 20;

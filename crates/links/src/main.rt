@@ -1,5 +1,7 @@
 // Turns a text of links (docs/ISOLATION.md) into its bytes: reads standard input whole and writes the bytes to standard
 // output, or a line on the first fault to standard error alone.
+#![tactic(auto)]
+
 mod errors;
 mod fields;
 mod network;
@@ -14,7 +16,11 @@ mod words;
 ghost use Rattle.std.specs.Prelude.{◌≡◌, ◌≤◌, length};
 
 use errors::warn;
-use libc::{STDIN_FILENO, STDOUT_FILENO};
+
+const STDIN_FILENO: i32 = 0;
+
+const STDOUT_FILENO: i32 = 1;
+
 use lists::{behind, byte_at, front};
 use network::{Network, after_line, nothing};
 use output::{OUT, with_names};

@@ -14,7 +14,7 @@ const LINKS: usize = 256;
 const ENTRIES: usize = 64;
 
 // The ports that have links, the client lines, the names, the bytes, and whether a fault was told.
-#[derive(Drop)]
+#[derive(Clone, Copy)]
 pub(crate) struct Network {
     pub(crate) ports: Seen,
     pub(crate) entries: Seen,

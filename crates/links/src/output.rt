@@ -11,7 +11,7 @@ const CLIENT: u8 = 0x32;
 
 const NAME: u8 = 0x33;
 
-#[derive(Drop)]
+#[derive(Clone, Copy)]
 pub(crate) struct Made {
     pub(crate) bytes: [u8; OUT],
     pub(crate) count: usize,

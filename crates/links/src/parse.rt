@@ -4,7 +4,7 @@ use crate::words::{past, word};
 use lists::same;
 
 // What was expected where a line has a fault: a word that stands for itself, a number, or another value.
-#[derive(Drop)]
+#[derive(Clone, Copy)]
 pub(crate) enum Fault {
     None,
     Record,
@@ -24,13 +24,13 @@ pub(crate) enum Fault {
 }
 
 // Where a client's name stands in the text. A name of no letter stands for all clients.
-#[derive(Drop)]
+#[derive(Clone, Copy)]
 pub(crate) struct Name {
     pub(crate) at: usize,
     pub(crate) length: usize,
 }
 
-#[derive(Drop)]
+#[derive(Clone, Copy)]
 pub(crate) struct Parse {
     // Where the next word is looked for.
     pub(crate) at: usize,

@@ -3,7 +3,7 @@ use crate::fields::{client, next, owner, place, port, prefix, switch};
 use crate::parse::{Fault, Parse, begun, ended, faulted, is_next, passed};
 
 // The link at a port of a switch, and what it leads to.
-#[derive(Drop)]
+#[derive(Clone, Copy)]
 pub(crate) struct Link {
     pub(crate) switch: u8,
     pub(crate) port: u16,
@@ -11,14 +11,14 @@ pub(crate) struct Link {
 }
 
 // The switch at which a client's packets to these addresses come in.
-#[derive(Drop)]
+#[derive(Clone, Copy)]
 pub(crate) struct Entry {
     pub(crate) prefix: u32,
     pub(crate) length: u8,
     pub(crate) switch: u8,
 }
 
-#[derive(Drop)]
+#[derive(Clone, Copy)]
 pub(crate) enum Record {
     Nothing,
     OfLink(Link),
@@ -26,7 +26,7 @@ pub(crate) enum Record {
 }
 
 // A record, whose client's name is in the parse.
-#[derive(Drop)]
+#[derive(Clone, Copy)]
 pub(crate) struct Line {
     pub(crate) parse: Parse,
     pub(crate) record: Record,

@@ -11,7 +11,7 @@ pub(crate) const NAMES: usize = 64;
 pub(crate) const NO_CLIENT: u8 = 255;
 
 // Numbers above 0, each with its line.
-#[derive(Drop)]
+#[derive(Clone, Copy)]
 pub(crate) struct Seen {
     pub(crate) keys: [u64; NUMBERS],
     pub(crate) lines: [usize; NUMBERS],
@@ -19,7 +19,7 @@ pub(crate) struct Seen {
 }
 
 // Names in the order in which they first stand in the text. Places without one have no letter.
-#[derive(Drop)]
+#[derive(Clone, Copy)]
 pub(crate) struct Names {
     pub(crate) names: [Name; NAMES],
     pub(crate) count: usize,

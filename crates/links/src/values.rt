@@ -13,13 +13,13 @@ pub(crate) const NO_LENGTH: u8 = 33;
 const LONGEST_NAME: usize = 32;
 
 // A number of an address, and the place behind the mark that ends it.
-#[derive(Drop)]
+#[derive(Clone, Copy)]
 struct Part {
     value: u8,
     next: usize,
 }
 
-#[derive(Drop)]
+#[derive(Clone, Copy)]
 pub(crate) struct Prefix {
     pub(crate) address: u32,
     pub(crate) length: u8,

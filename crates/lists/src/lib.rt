@@ -1,6 +1,8 @@
 // Definitions and laws of lists: arrays with a count as lists, tests of every element, different members, numbers as
 // bytes, and bytes in a frame. The crates above cite specs/ in their contracts and proofs/ in their proofs. The only code
 // reads bytes, makes numbers of them, lends parts of them, compares them, and puts numbers into a frame.
+#![tactic(auto)]
+
 ghost use Rattle.std.specs.Prelude.{◌≡◌, [], ◌∷◌, take, drop};
 ghost use Rattle.lists.specs.Bytes.{num, byte_at, equal};
 

@@ -84,21 +84,21 @@ module _ (s : List ℕ) where
   decode-controller_length l k = as_other l ∙ wrong_length _ _ _ (ne_eqb _ _ k)
 
   -- every case that there is at an end
-  pub by-switch : {C : Type 0}
+  pub by_switch : {C : Type 0}
       → (length s ≡ share_length → byte_at s kind_at ≡ share_kind → decode Switch s ≡ share_of s → C)
       → ((k : ℕ) → (k ≡ 10) ⊎ (k ≡ 11) → decode Switch s ≡ Refused k → C) → C
-  by-switch share refusal =
+  by_switch share refusal =
       by_eq (length s) share_length
       (λ l. by_eq (byte_at s kind_at) share_kind (λ k. share l k (decode-share l k))
       (λ k. refusal 11 (inr refl) (decode-share_kind l k)))
       (λ l. refusal 10 (inl refl) (decode-share_length l))
 
-  pub by-controller : {C : Type 0}
+  pub by_controller : {C : Type 0}
       → (length s ≡ event_length → byte_at s kind_at ≡ event_kind → decode Controller s ≡ event_of s → C)
       → (length s ≡ acknowledgement_length → byte_at s kind_at ≡ acknowledgement_kind
       → decode Controller s ≡ acknowledgement_of s → C)
       → ((k : ℕ) → (k ≡ 10) ⊎ (k ≡ 11) → decode Controller s ≡ Refused k → C) → C
-  by-controller event acknowledgement refusal =
+  by_controller event acknowledgement refusal =
       by_eq (length s) event_length
       (λ l. by_eq (byte_at s kind_at) event_kind (λ k. event l k (decode-event l k))
       (λ k. refusal 11 (inr refl) (decode-event_kind l k)))
@@ -123,9 +123,9 @@ Gives Controller s (Share c w n r) = ⊥
 Gives Controller s (Refused k) = (k ≡ 10) ⊎ (k ≡ 11)
 
 pub gives : (end : End) (s : List ℕ) {m : Message} → decode end s ≡ m → Gives end s m
-gives Switch s e = rw (← e) (by-switch s (λ l k f. rw f (l, k, refl)) (λ k h f. rw f h))
+gives Switch s e = rw (← e) (by_switch s (λ l k f. rw f (l, k, refl)) (λ k h f. rw f h))
 gives Controller s e =
-    rw (← e) (by-controller s (λ l k f. rw f (l, k, refl)) (λ l k f. rw f (l, k, refl)) (λ k h f. rw f h))
+    rw (← e) (by_controller s (λ l k f. rw f (l, k, refl)) (λ l k f. rw f (l, k, refl)) (λ k h f. rw f h))
 
 -- the number that a share was read with is the one in its bytes
 pub share-number : (s : List ℕ) {c w n : ℕ} {r : Rule} → decode Switch s ≡ Share c w n r → field s number_at 4 ≡ n
@@ -143,9 +143,9 @@ pub by_read : (P : Message → Type 0) (end : End) (s : List ℕ) → number_of 
     → (length s ≡ acknowledgement_length → byte_at s kind_at ≡ acknowledgement_kind → P (acknowledgement_of s))
     → P (decode end s)
 by_read P Switch s h event share acknowledgement =
-    by-switch s (λ l k e. rw e (share l k)) (λ k r e. let z = rw e at h in absurd (omega (arith, from_10 r)))
+    by_switch s (λ l k e. rw e (share l k)) (λ k r e. let z = rw e at h in absurd (omega (arith, from_10 r)))
 by_read P Controller s h event share acknowledgement =
-    by-controller s (λ l k e. rw e (event l k)) (λ l k e. rw e (acknowledgement l k))
+    by_controller s (λ l k e. rw e (event l k)) (λ l k e. rw e (acknowledgement l k))
     (λ k r e. let z = rw e at h in absurd (omega (arith, from_10 r)))
 
 -- document 01's number and values of what is read at a switch: the refusing question, or the fields of a share

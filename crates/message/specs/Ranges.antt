@@ -1,5 +1,5 @@
 -- What the laws of reading back and writing back speak of; no contract cites it.
-use Rattle.std.specs.Prelude.{ℕ, ◌^◌, ◌<◌}
+use Rattle.std.specs.Prelude.{◌^◌, ◌<◌}
 use Rattle.flow.specs.Rules.{port_of}
 use Rattle.message.specs.declared.End.{End}
 use Rattle.message.specs.declared.End.TheVariants.{Switch, Controller}

@@ -1,5 +1,7 @@
 // The messages between switches and controllers (document 01, "Bytes"): read, written at an offset of a frame, their
 // tags checked, and their senders asked. Every function takes every byte string, every offset and every message.
+#![tactic(auto)]
+
 use flow::Rule;
 
 mod acknowledgements;
@@ -17,14 +19,14 @@ pub use senders::sender_question;
 pub use writing::{length_of, write};
 
 // The end at which a message is received.
-#[derive(Drop)]
+#[derive(Clone, Copy)]
 pub enum End {
     Switch,
     Controller,
 }
 
 // A message by its kind, or the number of the question that refuses the bytes.
-#[derive(Drop)]
+#[derive(Clone, Copy)]
 pub enum Message {
     Event {
         switch: u8,

@@ -1,5 +1,5 @@
 -- Which pair's key gives a share its tag: pair after pair.
-use mathlib.Core.Path.{◌≡◌, refl, sym, ap, ap₂, ◌∙◌}
+use mathlib.Core.Path.{◌≡◌, ap₂, ◌∙◌}
 use mathlib.Core.Bool.{Bool, true, false}
 use mathlib.Core.List.{List}
 use Prim.Native.Nat.{ℕ, suc, ◌+◌, ◌-◌, ◌/◌, ◌%◌, ◌≤◌, ◌<◌}
@@ -9,7 +9,6 @@ use Rattle.tag.specs.Tags.{is_tag}
 use Rattle.message.specs.Keys.{key_of}
 use Rattle.message.specs.Layout.{share_body}
 use Rattle.notation.specs.Pairs.{gives, giver_among}
-use Rattle.notation.specs.declared.Giver.{Giver}
 use Rattle.notation.specs.declared.Giver.TheVariants.{Nobody, Pair}
 
 module _ (share : List ℕ) (i : ℕ) {body given : List ℕ} {b : Bool} (inside : i < 256)

@@ -1,6 +1,5 @@
 -- The names of records and of fields (docs/NOTATION.md), and the kind that a word names.
 use Rattle.std.specs.Prelude.{ℕ, List, [], ◌∷◌, length, take}
-use Prim.Native.String.{String}
 use Rattle.answer.specs.Ask.{pick}
 use Rattle.lists.specs.Arrays.{pad}
 use Rattle.lists.specs.Bytes.{equal}

@@ -1,6 +1,6 @@
 -- Words as bytes.
 use Rattle.std.specs.Prelude.{ℕ, List, [], ◌∷◌}
-use Prim.Native.Char.{Char, code}
+use Prim.Native.Char.{code}
 use Prim.Native.String.{String, [] as no-letter, ◌∷◌ as ◌before◌}
 
 -- the bytes of a text: the code of each letter

@@ -1,6 +1,8 @@
 // What the notation of a rehearsal (docs/NOTATION.md) rests on: the kinds of records with their sizes and fields, the
 // names of both, and the pair whose key gives a share its tag. A new kind of record has a row in specs/Kinds.antt, a
 // place in `ALL`, and a line in each function of a kind. No function asks anything of its caller.
+#![tactic(auto)]
+
 mod fields;
 pub mod kinds;
 mod names;
@@ -23,7 +25,7 @@ pub const MESSAGE_AT: usize = 2;
 pub const LINE: usize = 64;
 
 // What a record or a message has after its kind: numbers with a name, or what has a notation of its own.
-#[derive(Drop)]
+#[derive(Clone, Copy)]
 pub enum Field {
     Nothing,
     Flow,
@@ -42,14 +44,14 @@ pub enum Field {
 const LONGEST: usize = 10;
 
 // A name is the first bytes of these.
-#[derive(Drop)]
+#[derive(Clone, Copy)]
 pub struct Name {
     pub bytes: [u8; LONGEST],
     pub length: usize,
 }
 
 // Whose key gives a share its tag.
-#[derive(Drop)]
+#[derive(Clone, Copy)]
 pub enum Giver {
     Nobody,
     Pair { controller: u8, switch: u8 },

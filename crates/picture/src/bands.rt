@@ -6,7 +6,7 @@ use prose::{OUT, say, say_number};
 use rehearsal::Deed;
 
 // At which change each switch is.
-#[derive(Drop)]
+#[derive(Clone, Copy)]
 pub(crate) struct Standing {
     changes: [u32; limits::OF_SWITCHES],
 }

@@ -8,7 +8,7 @@ use rehearsal::DEEDS;
 // So many are listed.
 pub(crate) const LISTED: usize = 24;
 
-#[derive(Drop)]
+#[derive(Clone, Copy)]
 pub(crate) struct Firsts {
     pub(crate) columns: [usize; LISTED],
     pub(crate) count: usize,

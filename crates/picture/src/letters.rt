@@ -13,7 +13,7 @@ const LETTERS: u8 = 26;
 const FURTHER: u8 = 27;
 
 // What each column's share asks for, as numbers: the change of a switch, 0 where there is no share, and the rule.
-#[derive(Drop)]
+#[derive(Clone, Copy)]
 pub(crate) struct Asked {
     pub(crate) changes: [u64; DEEDS],
     pub(crate) rules: [u64; DEEDS],

@@ -1,10 +1,13 @@
 // Draws a rehearsal as an SVG picture on standard output: a row for each end, a column for each record, forty columns
 // in a band, and marks for what came of it. It reads what crate `rehearse` reads; what is proved is that every function
 // is safe and ends.
+#![tactic(auto)]
+
 ghost use Rattle.std.specs.Prelude.{◌≡◌, ◌+◌, length};
 ghost use Rattle.rehearsal.specs.Limits.{longest_input};
 
-use libc::STDIN_FILENO;
+const STDIN_FILENO: i32 = 0;
+
 use prose::OUT;
 use rehearsal::Told;
 

@@ -3,7 +3,7 @@ use answer::limits;
 use rehearsal::{DEEDS, Deed, Kind};
 
 // The switches that some record reached.
-#[derive(Drop)]
+#[derive(Clone, Copy)]
 pub(crate) struct Reached {
     pub(crate) switches: [bool; limits::OF_SWITCHES],
 }

@@ -9,7 +9,7 @@ use rehearsal::{DEEDS, Deed, Kind};
 // No question has a number from 64 on; each has two places.
 const PLACES: usize = 128;
 
-#[derive(Drop)]
+#[derive(Clone, Copy)]
 pub(crate) struct Refusals {
     met: [bool; PLACES],
 }

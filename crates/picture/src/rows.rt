@@ -16,7 +16,7 @@ const HEIGHT: u64 = 36;
 
 // How many controllers there are; whether a step belongs to no row; how deep each switch's row lies, 0 for a switch
 // without one; the answers and figures below the rows, and where the band ends.
-#[derive(Drop)]
+#[derive(Clone, Copy)]
 pub(crate) struct Rows {
     pub(crate) n: u8,
     pub(crate) outside: bool,

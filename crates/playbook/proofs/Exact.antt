@@ -15,7 +15,7 @@ use Rattle.lists.specs.Arrays.{every}
 use Rattle.lists.specs.Bytes.{be, AreBytes}
 use Rattle.lists.proofs.Tails.{every_take, every_drop}
 use Rattle.flow.specs.Rules.{rule_key, prefix_ok}
-use Rattle.playbook.specs.Limits.{max_plans, max_changes, end_kind, plan_size, change_size, end_size, most_bytes}
+use Rattle.playbook.specs.Limits.{max_plans, max_changes, end_kind, plan_size, change_size, most_bytes}
 use Rattle.playbook.specs.Books.{no_plans, book_of}
 use Rattle.playbook.specs.Printing.{plan_bytes, change_bytes, changes_bytes, plans_bytes, bytes_of, InRange}
 use Rattle.playbook.specs.Reading.{read_first, read_whole}

@@ -133,9 +133,9 @@ pub stored_sound : (p : Playbook) → length p.plans ≡ max_plans → length p.
     → Sound p
 stored_sound p n m h =
     let s = stored_parts p h in
-    let plans = as_padded plan_empty empty_plan only-empty_plan _ p.plans n s.planned s.plans-unused in
+    let plans = as_padded plan_empty empty_plan only-empty_plan _ p.plans n s.planned s.plans_unused in
     let changes =
-    as_padded change_empty empty_change only-empty_change _ p.changes m s.listed s.changes-unused in
+    as_padded change_empty empty_change only-empty_change _ p.changes m s.listed s.changes_unused in
     λ i. record { plans = plans.0 i; planned = plans.1 i; changes = changes.0 i; listed = changes.1 i }
 
 -- triggers are pairs of numbers as keys are, and tested for equality alike

@@ -1,5 +1,5 @@
 -- The reader gives a stored playbook back from its bytes. What carries the proof is that a book within its limits was
--- within them a plan or a change earlier and that this record passes its questions (`plan-back`, `change-back`), so
+-- within them a plan or a change earlier and that this record passes its questions (`plan_back`, `change_back`), so
 -- that only the order of the records is left to follow. Assumes nothing.
 use mathlib.Core.Path.{◌≡◌, refl, sym, ap, ap₂, ◌∙◌}
 use mathlib.Core.List.{List, [], ◌∷◌, ◌++◌, append_assoc, append-nil}

@@ -1,6 +1,8 @@
 // The playbook (document 01, "Bytes"): its store by value, its reader over the whole input or over a beginning of it,
 // the test whether a store is such as the reader stores, and the plan of a switch and cause. Every function takes every
 // input.
+#![tactic(auto)]
+
 use flow::Rule;
 
 mod books;
@@ -18,7 +20,7 @@ pub use reading::{read, read_first};
 pub use storing::stored;
 
 // A change of a plan. Its flow byte has meaning only inside the plan.
-#[derive(Drop)]
+#[derive(Clone, Copy)]
 pub struct Change {
     pub flow: u8,
     pub switch: u8,
@@ -26,7 +28,7 @@ pub struct Change {
 }
 
 // A plan: the switch and cause that trigger it, and where its changes stand.
-#[derive(Drop)]
+#[derive(Clone, Copy)]
 pub struct Plan {
     pub switch: u8,
     pub cause: u8,
@@ -35,7 +37,7 @@ pub struct Plan {
 }
 
 // A playbook: the first `planned` plans are in use, and the first `listed` changes, plan after plan.
-#[derive(Drop)]
+#[derive(Clone, Copy)]
 pub struct Playbook {
     pub plans: [Plan; limits::PLANS],
     pub planned: usize,
@@ -44,7 +46,7 @@ pub struct Playbook {
 }
 
 // What reading gives: 0, the bytes used and the playbook; or a question's number, 0 and the empty playbook.
-#[derive(Drop)]
+#[derive(Clone, Copy)]
 pub struct Outcome {
     pub answer: u8,
     pub used: usize,
@@ -52,7 +54,7 @@ pub struct Outcome {
 }
 
 // A record of a playbook, or the number of the question that refuses the bytes.
-#[derive(Drop)]
+#[derive(Clone, Copy)]
 pub(crate) enum Record {
     Opens { switch: u8, cause: u8 },
     Lists(Change),

@@ -1,6 +1,10 @@
 // Text on standard output: words, numbers, bytes and addresses. It is collected, and written in pieces of eight
 // kilobytes. No contract can say what is written; that each function is safe and ends is all there is to prove.
-use libc::{STDERR_FILENO, STDOUT_FILENO};
+#![tactic(auto)]
+
+const STDOUT_FILENO: i32 = 1;
+
+const STDERR_FILENO: i32 = 2;
 
 // So many bytes are collected. Behind them stand how many wait, in two bytes, and whether some could not be written.
 const ROOM: usize = 8192;

@@ -21,7 +21,7 @@ module _ {Content Table : Type 0} (D : Domain Content Table) where
     pub trusted : Trusted D D.empty
     pub none_joins : (x : Content) (t : Table) (c : ℕ) → D.member (D.apply x t) c ≡ true → D.member t c ≡ true
     pub lower : (k j : ℕ) → D.waits k j ≡ true → (0 < j) × (j < k)
-    pub in_turn_lem : (k j : ℕ) → Agreed D k → 0 < j → j < k → D.switch j ≡ D.switch k → D.waits k j ≡ true
+    pub in_turn : (k j : ℕ) → Agreed D k → 0 < j → j < k → D.switch j ≡ D.switch k → D.waits k j ≡ true
     pub same_sound : (x y : Content) → D.same x y ≡ true → x ≡ y
     pub same_mine : (x : Content) → D.same x x ≡ true
 

@@ -163,7 +163,7 @@ module _ {Content Table : Type 0} (D : Domain Content Table) where
         newly : (i : ℕ) → Agreed D i → i ≤ lasts next (D.switch i) → (i ≤ lasts w (D.switch i)) ⊎ (i ≡ k)
         newly i g h =
             by_eq s (D.switch i)
-            (λ e. by_eq i k (λ q. inr q) (λ n. inl (sound.free i (L.in_turn_lem k i sound.agreed g.0
+            (λ e. by_eq i k (λ q. inr q) (λ n. inl (sound.free i (L.in_turn k i sound.agreed g.0
             (let top : i ≤ k = omega (arith, rw (← e) at h, here) in omega arith) (sym e ∙ sym sound.on)))))
             (λ n. inl (omega (arith, elsewhere (D.switch i) n)))
 
@@ -204,7 +204,7 @@ module _ {Content Table : Type 0} (D : Domain Content Table) where
             by_bool (D.strays i) (λ e. e)
             (λ keeps.
             let g = (stored_sound i (omega arith)).2 keeps in
-            let done = g.free k (L.in_turn_lem (now.slots i).number k g.agreed sound.agreed.0 high
+            let done = g.free k (L.in_turn (now.slots i).number k g.agreed sound.agreed.0 high
             (sound.on ∙ sym g.on)) in
             absurd (omega (arith, rw sound.on at done)))
 

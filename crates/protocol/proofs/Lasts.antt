@@ -75,7 +75,7 @@ module _ {Content Table : Type 0} (D : Domain Content Table) where
         (λ l. tf
         (by_eq k j (λ q. rw q m)
         (λ other. lawful_closed D ks h j m k
-        (L.in_turn_lem j k (lawful_agreed D ks h j m) n.agreed.0 (omega arith) (sym e))))
+        (L.in_turn j k (lawful_agreed D ks h j m) n.agreed.0 (omega arith) (sym e))))
         n.new)
         (λ l. l)
 
@@ -88,7 +88,7 @@ module _ {Content Table : Type 0} (D : Domain Content Table) where
         by_bool (eqb (D.switch k) s)
         (λ on.
         let e = eqb-true _ _ on in
-        let top = u.none-past k (or_left (eqb k k) _ (eq-eqb k k refl)) e in
+        let top = u.none_past k (or_left (eqb k k) _ (eq-eqb k k refl)) e in
         let past = skipped s k b top (λ j l m q.
         by_or (eqb k j) _ (u.all j (omega arith, omega (arith, u.few)) q m)
         (λ same. omega (arith, eqb-true k j same))
@@ -98,15 +98,15 @@ module _ {Content Table : Type 0} (D : Domain Content Table) where
         let under = by_bound s i ks h.1 (record {
           few = omega (arith, step.1, h.0.agreed.1);
           none_past = λ j m q. omega (arith, step.1, next-highest k ks h.0 h.1 j m (q ∙ sym e));
-          all = λ j g q m. h.0.none-skipped j
-              (L.in_turn_lem k j h.0.agreed g.0 (omega (arith, step.1)) (q ∙ sym e));
+          all = λ j g q m. h.0.none_skipped j
+              (L.in_turn k j h.0.agreed g.0 (omega (arith, step.1)) (q ∙ sym e));
         }) in
         rw (on, past, step.2) (ap (D.apply (D.content k)) under))
         (λ off.
         let other = eqb-false (D.switch k) s off in
         rw off (by_bound s b ks h.1 (record {
           few = u.few;
-          none_past = λ j m q. u.none-past j (or_right (eqb k j) _ m) q;
+          none_past = λ j m q. u.none_past j (or_right (eqb k j) _ m) q;
           all = λ j g q m. by_or (eqb k j) _ (u.all j g q m)
               (λ same. absurd (other (ap D.switch (eqb-true k j same) ∙ q))) (λ there. there);
         })))

@@ -37,7 +37,7 @@ module _ {Content Table : Type 0} (D : Domain Content Table) where
   falling-next k ks n = record {
     agreed = n.agreed;
     new = falling-among k ks ∙ n.new;
-    none_skipped = λ i e. falling-among i ks ∙ n.none-skipped i e;
+    none_skipped = λ i e. falling-among i ks ∙ n.none_skipped i e;
   }
 
   -- each number of a lawful list is agreed, and what it waits for is in the list
@@ -53,7 +53,7 @@ module _ {Content Table : Type 0} (D : Domain Content Table) where
   lawful_closed [] h k m i e = tf m refl
   lawful_closed (j ∷ ks) h k m i e =
       or_right (eqb j i) _
-      (by_or (eqb j k) _ m (λ q. h.0.none-skipped i (rw (eqb-true j k q) e)) (λ q. lawful_closed ks h.1 k q i e))
+      (by_or (eqb j k) _ m (λ q. h.0.none_skipped i (rw (eqb-true j k q) e)) (λ q. lawful_closed ks h.1 k q i e))
 
   module _ (L : Laws D) where
     -- a number may be made next after the list without a higher one, and that one next after the list with it
@@ -62,7 +62,7 @@ module _ {Content Table : Type 0} (D : Domain Content Table) where
     without k j js l n = record {
       agreed = n.agreed;
       new = (or_none (eqb j k) _ n.new).1;
-      none_skipped = λ i e. by_or (eqb j i) _ (n.none-skipped i e)
+      none_skipped = λ i e. by_or (eqb j i) _ (n.none_skipped i e)
           (λ q. absurd (omega (arith, eqb-true j i q, (L.lower k i e).1))) (λ q. q);
     }
 
@@ -70,7 +70,7 @@ module _ {Content Table : Type 0} (D : Domain Content Table) where
     beside k j js l n = record {
       agreed = n.agreed;
       new = insert-among j k js ∙ or_join (eqb k j) _ (ne_eqb k j (λ e. omega arith)) n.new;
-      none_skipped = λ i e. insert-among i k js ∙ or_right (eqb k i) _ (n.none-skipped i e);
+      none_skipped = λ i e. insert-among i k js ∙ or_right (eqb k i) _ (n.none_skipped i e);
     }
 
     insert_lawful : (k : ℕ) (js : List ℕ) → Lawful D js → Next D k js → Lawful D (insert k js)
@@ -93,7 +93,7 @@ module _ {Content Table : Type 0} (D : Domain Content Table) where
     apart : (k : ℕ) (js : List ℕ) → Lawful D js → Next D k js → (j : ℕ) → is_among j js ≡ true → k < j
         → D.switch j ≡ D.switch k → ⊥
     apart k js h n j m l e =
-        tf (lawful_closed js h j m k (L.in_turn_lem j k (lawful_agreed js h j m) n.agreed.0 l (sym e))) n.new
+        tf (lawful_closed js h j m k (L.in_turn j k (lawful_agreed js h j m) n.agreed.0 l (sym e))) n.new
 
     -- a table with a number made on it, or not; two on different switches may change places
     abbrev with : ℕ → ℕ → Table → Table

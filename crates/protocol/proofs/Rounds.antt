@@ -105,7 +105,7 @@ module _ {Content Table : Type 0} (D : Domain Content Table) where
           by_eq k m (λ e. e) (λ n. absurd (omega (
             arith,
             g.free m
-                (L.in_turn_lem k m g.agreed agreed.0 (omega arith) (sym g.on)),
+                (L.in_turn k m g.agreed agreed.0 (omega arith) (sym g.on)),
           )))
 
       -- a share from any controller leaves a held share of m in its slot, or makes m
@@ -170,7 +170,7 @@ module _ {Content Table : Type 0} (D : Domain Content Table) where
               arith,
               t.0,
               I.behind c (D.switch m),
-              rw g.on at (p.free (slot_at v c).number (L.in_turn_lem m _ agreed g.agreed.0 l g.on)),
+              rw g.on at (p.free (slot_at v c).number (L.in_turn m _ agreed g.agreed.0 l g.on)),
             ))) in
             let is = sound_is v undone _ _ g high in
             inr (is, sym g.carries ∙ ap D.content is))
@@ -219,7 +219,8 @@ module _ {Content Table : Type 0} (D : Domain Content Table) where
       shared_held c keeps w I p xs a h =
           let keep_p = both (Primed c) (primed_kept c) in
           let keep_q = both (DoneOrHeld c) (held_kept c keeps) in
-          (sometime (step D) (Allowed D) (With (Primed c)) (With (DoneOrHeld c)) _ keep_p
+          (sometime (step D) (Allowed D) (With (Primed c)) (With (DoneOrHeld c))
+          (λ v rest. Ready D (v.controllers c) m → Memᴰ (takes_share (D.switch m) c m (D.content m)) rest) keep_p
           (λ v rest b q now.
           by_le m (lasts v (D.switch m))
           (λ done. run-keeps (step D) (Allowed D) (With (DoneOrHeld c)) keep_q v rest b (q.0, λ mem. inl done))

@@ -1,5 +1,5 @@
 -- An input before its script: which question stops it, and what follows where none does.
-use mathlib.Core.Path.{◌≡◌, refl, sym, ap, ◌∙◌}
+use mathlib.Core.Path.{◌≡◌, refl, sym, ◌∙◌}
 use mathlib.Core.Bool.{Bool, true, false, ◌&&◌}
 use mathlib.Core.List.{List, [], ◌∷◌}
 use Prim.Native.Nat.{ℕ, ◌+◌, ◌-◌, ◌≤◌, ◌<◌}
@@ -18,7 +18,6 @@ use Rattle.playbook.specs.declared.Outcome.{Outcome}
 use Rattle.playbook.proofs.Front.{read_used}
 use Rattle.rehearsal.specs.Worlds.{world_of}
 use Rattle.rehearsal.specs.Scripts.{controllers_in, book_in, script_in, input_questions}
-use Rattle.rehearsal.specs.Scripts.{world_in}
 use Rattle.rehearsal.specs.Storing.{not_begun, begun_of}
 use Rattle.rehearsal.specs.Deeds.{broken_deed, deeds_from, told_by, told_of}
 use Rattle.rehearsal.specs.declared.Begun.{Begun}

@@ -1,6 +1,6 @@
 -- For tellers: what each record did beside its line, and the same with one controller's shares dropped (document 02,
 -- N9). What the lines mean is in Scripts.antt and rests on nothing here; where nobody's shares are dropped the deeds have
--- these lines (`told-lines`, proofs/Telling.antt).
+-- these lines (`told_lines`, proofs/Telling.antt).
 use Rattle.std.specs.Prelude.{ℕ, zero, suc, ◌+◌, ◌-◌, Bool, true, false, not, ◌&&◌, List, [], ◌∷◌, length, take, drop, get_or, ltb, eqb}
 use Rattle.std.specs.Int.Count.{ones}
 use Rattle.answer.specs.Ask.{pick, reply}

@@ -1,5 +1,7 @@
 // The rehearsal (document 01, "Rehearsal program"): a playbook and a script carried out on a world of sixteen switches
 // and n controllers, and the lines that tell of it. It works on slices; every input is rehearsed.
+#![tactic(auto)]
+
 use controller::Controller;
 use switch::{Slot, Switch};
 
@@ -29,21 +31,21 @@ pub const INPUT: usize = 1 + playbook::limits::LONGEST + limits::SCRIPT + 1;
 pub const OUTPUT: usize = limits::LINES * limits::LINE;
 
 // A share in an array that has room for the longest one: its bytes are the first `length`.
-#[derive(Drop)]
+#[derive(Clone, Copy)]
 pub struct Share {
     pub bytes: [u8; limits::LONGEST_SHARE],
     pub length: usize,
 }
 
 // A kept share and the switch that it is for; an empty place has a switch past the last one.
-#[derive(Drop)]
+#[derive(Clone, Copy)]
 pub struct Place {
     pub switch: u8,
     pub share: Share,
 }
 
 // A world: the number of controllers, the switches, the controllers, and the places for kept shares.
-#[derive(Drop)]
+#[derive(Clone, Copy)]
 pub struct World {
     pub n: u8,
     pub switches: [Switch; limits::SWITCHES],
@@ -53,7 +55,7 @@ pub struct World {
 
 // What an input is before its script: 0, where the script begins and the world before it; or the number of the question
 // that refuses the input, 0 and a world without controllers.
-#[derive(Drop)]
+#[derive(Clone, Copy)]
 pub(crate) struct Begun {
     pub(crate) answer: u8,
     pub(crate) script: usize,
@@ -61,7 +63,7 @@ pub(crate) struct Begun {
 }
 
 // The kinds of script records.
-#[derive(Drop)]
+#[derive(Clone, Copy)]
 pub enum Kind {
     Decide,
     Send,
@@ -72,7 +74,7 @@ pub enum Kind {
 }
 
 // A script record: its kind, and what it names; 0 for what its kind has not.
-#[derive(Drop)]
+#[derive(Clone, Copy)]
 pub struct Record {
     pub kind: Kind,
     pub controller: u8,
@@ -83,14 +85,14 @@ pub struct Record {
 }
 
 // What stands at the front of a script: a record, or the number of the question that refuses the bytes.
-#[derive(Drop)]
+#[derive(Clone, Copy)]
 pub enum Next {
     Found(Record),
     Refused(u8),
 }
 
 // What a record does: its answer, its figure, and the controller, the switch and the place that it was carried out on.
-#[derive(Drop)]
+#[derive(Clone, Copy)]
 pub(crate) struct Moved {
     pub(crate) answer: u8,
     pub(crate) figure: u32,
@@ -100,21 +102,21 @@ pub(crate) struct Moved {
 }
 
 // A share made: 0 and its bytes, or the number of the question that refuses it and no bytes.
-#[derive(Drop)]
+#[derive(Clone, Copy)]
 pub(crate) struct Made {
     pub(crate) answer: u8,
     pub(crate) share: Share,
 }
 
 // Whose shares are dropped on their way to a switch: nobody's, or those of the sender with a number.
-#[derive(Drop)]
+#[derive(Clone, Copy)]
 pub enum Dropped {
     Nobody,
     Of(u8),
 }
 
 // What a switch reads in bytes: whether they are a share, and then its sender, its number and its rule.
-#[derive(Drop)]
+#[derive(Clone, Copy)]
 pub struct Wish {
     pub shared: bool,
     pub sender: u8,
@@ -123,7 +125,7 @@ pub struct Wish {
 
 // Why nothing was ready for a switch: the number of the change that waits, and the number and the switch of the one that
 // it waits for; 0 where there is none.
-#[derive(Drop)]
+#[derive(Clone, Copy)]
 pub struct Delay {
     pub waiting: u32,
     pub awaited: u32,
@@ -135,7 +137,7 @@ pub struct Delay {
 // arrives; the switch is the one that was reached, or would have been. `share` has the bytes that were made or delivered,
 // and `wish` what they ask for; `agreeing` counts the controllers whose slots hold it afterwards, and `replaced` is the
 // number that was held from the sender before, or 0. A decision that was taken gave so many `numbers`, up to `last`.
-#[derive(Drop)]
+#[derive(Clone, Copy)]
 pub struct Deed {
     pub found: bool,
     pub item: Record,
@@ -155,7 +157,7 @@ pub struct Deed {
 
 // A rehearsal told: the number of the question that refuses its input before the script, or 0; its deeds, of which the
 // first `count` are in use; and the world after the last.
-#[derive(Drop)]
+#[derive(Clone, Copy)]
 pub struct Told {
     pub answer: u8,
     pub deeds: [Deed; DEEDS],
@@ -164,7 +166,7 @@ pub struct Told {
 }
 
 // What is printed of a record: its ordinal, the answer and the figure; ordinal 0 for a fault before the script.
-#[derive(Drop)]
+#[derive(Clone, Copy)]
 pub(crate) struct Line {
     pub(crate) ordinal: u32,
     pub(crate) answer: u8,
@@ -172,14 +174,14 @@ pub(crate) struct Line {
 }
 
 // The lines of a rehearsal: the first `count` places are in use.
-#[derive(Drop)]
+#[derive(Clone, Copy)]
 pub(crate) struct Lines {
     pub(crate) places: [Line; limits::LINES],
     pub(crate) count: usize,
 }
 
 // What printing gives: 0 and how many bytes were written, or a question's number and 0.
-#[derive(Drop)]
+#[derive(Clone, Copy)]
 pub struct Printed {
     pub answer: u8,
     pub length: usize,

@@ -1,8 +1,14 @@
 // The rehearsal program (document 01): reads standard input whole and prints the lines of its rehearsal.
+#![tactic(auto)]
+
 ghost use Rattle.std.specs.Prelude.{◌≡◌, ◌+◌, length};
 ghost use Rattle.rehearsal.specs.Limits.{longest_input, most_printed};
 
-use libc::{STDERR_FILENO, STDIN_FILENO, STDOUT_FILENO};
+const STDIN_FILENO: i32 = 0;
+
+const STDOUT_FILENO: i32 = 1;
+
+const STDERR_FILENO: i32 = 2;
 
 fn for_input() -> [u8; rehearsal::INPUT]
     ensures { longest_input + 1 ≡ length result }

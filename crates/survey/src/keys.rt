@@ -4,7 +4,7 @@ use flow::Rule;
 use playbook::Change;
 
 // One place for each switch.
-#[derive(Drop)]
+#[derive(Clone, Copy)]
 pub(crate) struct Counts {
     pub(crate) on: [usize; limits::OF_SWITCHES],
 }

@@ -1,6 +1,8 @@
 // Surveys the playbook of an input: reads it from standard input, and prints two numbers and words. Where it is refused
 // before its script the numbers are the answer and the ordinal of the record at fault, 0 for none, and the words are
 // why. Else they are 0 and the number of the playbook's records, and the words tell what it uses of each limit.
+#![tactic(auto)]
+
 mod keys;
 mod uses;
 
@@ -8,7 +10,9 @@ ghost use Rattle.std.specs.Prelude.{◌≡◌, ◌+◌, length};
 ghost use Rattle.notation.specs.Limits.{input_limit};
 
 use answer::limits;
-use libc::STDIN_FILENO;
+
+const STDIN_FILENO: i32 = 0;
+
 use notation::INPUT;
 use prose::{OUT, say, say_number};
 

@@ -57,7 +57,7 @@ module _ (id n : ℕ) where
   pub setup_slots : length (setup_of id n).state.slots ≡ 16
   setup_slots = reply-keeps (λ (r : Reply). length r.state.slots ≡ 16) _ _ _ (λ k. refl) (λ y. refl)
 
--- the state of a refused setup is past its limits, so by `past-refused` every later call refuses it
+-- the state of a refused setup is past its limits, so by `past_refused` every later call refuses it
 pub zero-refused : switch_ok (fresh 0 0) ≡ false
 unfolding switch_ok
 zero-refused = refl

@@ -15,7 +15,7 @@ use Rattle.lists.specs.Places.{last_of}
 use Rattle.message.proofs.Ends.{share-number}
 use Rattle.switch.specs.Slots.{is_quorum}
 use Rattle.switch.specs.Shares.{stored, applied}
-use Rattle.switch.specs.Raising.{next_event, raised_by}
+use Rattle.switch.specs.Raising.{raised_by}
 use Rattle.switch.specs.States.{switch_ok}
 use Rattle.switch.specs.Writing.{message_for, is_there}
 use Rattle.switch.specs.Calls.{Managing, raises, Call, receives, writes, manages}

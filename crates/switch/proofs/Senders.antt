@@ -114,9 +114,9 @@ module _ (keys : List ℕ) (calls : List Call) where
           table = m.table;
           senders = controllers m.share now.slots;
           enough = omega (arith, m.quorum, agreed.as_many);
-          none_twice = agreed.none-twice;
+          none_twice = agreed.none_twice;
           came = λ c h.
-              (rw (agreed.only-these c h).1 at (stored_came there m.arrives c))
+              (rw (agreed.only_these c h).1 at (stored_came there m.arrives c))
               (omega (arith, m.arrives.passes.above));
         }
 

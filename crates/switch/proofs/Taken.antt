@@ -15,7 +15,7 @@ use Rattle.message.specs.Reading.{decode, is_sealed}
 use Rattle.message.specs.Senders.{sender_questions}
 use Rattle.message.specs.declared.End.TheVariants as ends
 use Rattle.message.specs.declared.Message.TheVariants.{Share}
-use Rattle.message.proofs.Ends.{by-switch, from_10}
+use Rattle.message.proofs.Ends.{by_switch, from_10}
 use Rattle.switch.specs.Slots.{slot_for, holds, is_quorum}
 use Rattle.switch.specs.States.{unchanged, switch_ok, state_questions}
 use Rattle.switch.specs.Shares.{slot_of, share_questions, stored, applied, accepted, take_share}
@@ -82,7 +82,7 @@ module _ (s : Switch) (keys bytes : List ℕ) where
   unfolding received_by take_share
   received =
       reply-from Replies 10 _ _ _ refl (λ k h. refused h)
-      (λ state. by-switch bytes
+      (λ state. by_switch bytes
       (λ l kind d. rw d (reply-from Replies 10 _ _ _ refl (λ k h. refused h)
       (λ sender. reply-from Replies 10 _ _ _ refl (λ k h. refused h)
       (λ own. passed_on (arrives state d sender own)))))

@@ -1,5 +1,7 @@
 // The switch end (document 01, "Switch end"): its state by value, shares received and counted, events raised, events
 // and acknowledgements written, and lookup. Every call takes every state, byte string and number.
+#![tactic(auto)]
+
 use flow::{Rule, Table};
 
 mod limits;
@@ -19,14 +21,14 @@ pub use states::setup;
 pub use writing::{write_acknowledgement, write_event};
 
 // A share's number and rule. A slot holds the latest share from its controller; number 0 marks an empty slot.
-#[derive(Drop)]
+#[derive(Clone, Copy)]
 pub struct Slot {
     pub number: u32,
     pub rule: Rule,
 }
 
 // The last raised event; serial 0 if none was raised.
-#[derive(Drop)]
+#[derive(Clone, Copy)]
 pub struct Raised {
     pub serial: u32,
     pub cause: u8,
@@ -34,7 +36,7 @@ pub struct Raised {
 
 // A switch: its id, the number of controllers, the last applied number, the flow table, a slot for each controller, and
 // the last raised event.
-#[derive(Drop)]
+#[derive(Clone, Copy)]
 pub struct Switch {
     pub id: u8,
     pub n: u8,
@@ -45,14 +47,14 @@ pub struct Switch {
 }
 
 // What a call gives: its answer, and the state that the next call gets.
-#[derive(Drop)]
+#[derive(Clone, Copy)]
 pub struct Reply {
     pub answer: u8,
     pub state: Switch,
 }
 
 // What a lookup gives: the number of the question that refuses the state, no entry, or the port.
-#[derive(Drop)]
+#[derive(Clone, Copy)]
 pub enum Looked {
     Refused(u8),
     Nothing,
@@ -60,7 +62,7 @@ pub enum Looked {
 }
 
 // What raising does to the last raised event: 0 and the next one, or a question's number and the event as it was.
-#[derive(Drop)]
+#[derive(Clone, Copy)]
 pub struct Stepped {
     pub answer: u8,
     pub raised: Raised,

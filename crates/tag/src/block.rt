@@ -7,7 +7,7 @@ ghost use Rattle.tag.specs.Unrolled as unrolled;
 use crate::bits::{add, big0, big1, ch, maj, small0, small1};
 
 // Eight words: the hash value, or the working variables of a round.
-#[derive(Drop)]
+#[derive(Clone, Copy)]
 pub(crate) struct State {
     pub(crate) a: u32,
     pub(crate) b: u32,

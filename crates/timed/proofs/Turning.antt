@@ -1,6 +1,6 @@
 -- No turn leaves what it finds, and one more turn is taken after those before it: in general, and for each turn over
 -- lent bytes, by what its calls left.
-use Rattle.std.proofs.Common.{◌≡◌, ℕ, zero, suc, ◌+◌, ◌%◌, List, set, refl, add-one}
+use Rattle.std.proofs.Common.{◌≡◌, ℕ, ◌+◌, ◌%◌, List, set, refl, add-one}
 use Rattle.lists.specs.Bytes.{byte_at}
 use Rattle.playbook.specs.Reading.{read_whole}
 use Rattle.rehearsal.specs.Scripts.{rehearsed}

@@ -7,7 +7,7 @@ use controller::Controller;
 const ACKNOWLEDGEMENT: usize = message::layout::ACKNOWLEDGEMENT_LENGTH;
 
 // What calls did: the state after them, and the sum of their answers.
-#[derive(Drop)]
+#[derive(Clone, Copy)]
 struct Called {
     state: Controller,
     sum: u64,

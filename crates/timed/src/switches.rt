@@ -9,7 +9,7 @@ use switch::{Looked, Raised, Switch};
 const SHARE: usize = message::layout::SHARE_LENGTH;
 
 // What shares did: the state after them, and the sum of their answers.
-#[derive(Drop)]
+#[derive(Clone, Copy)]
 struct Received {
     state: Switch,
     sum: u64,

@@ -1,8 +1,12 @@
 // Runs the cases of standard input through message and playbook, and prints a line for each. A case is a letter, two
 // bytes of length and that many bytes. tests/trials.py makes the cases, and works out the lines from document 01 alone.
+#![tactic(auto)]
+
 use cases::{action_of, say, say_byte, say_hex, say_rule, say_size, say_word, u16_at, u32_at};
 use flow::{Action, Rule};
-use libc::STDIN_FILENO;
+
+const STDIN_FILENO: i32 = 0;
+
 use lists::byte_at;
 use message::{End, Message};
 use playbook::{Change, Outcome, Plan, Playbook};

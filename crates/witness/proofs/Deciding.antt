@@ -77,7 +77,7 @@ module _ (S : Setting) (v : Valid S) (ds : List Decision) (d : Decision) (rest :
       (call_reached S v r R (deciding d k) keeps tt b) next in
       rw e (
         fair_join S v r (deciding d k ∷ []) (deciding_below S d k)
-            (record { in_run_lem = (keeps, tt); unforged = (tt, tt); begun = b }) more.0,
+            (record { in_run = (keeps, tt); unforged = (tt, tt); begun = b }) more.0,
         more.1,
       ))
 

@@ -28,13 +28,13 @@ use Rattle.domain.specs.Premises.{ControllerWrote, decisions, is_brought, Unforg
 use Rattle.domain.specs.Premises as premises
 use Rattle.domain.specs.Agreement.{agreed_changes}
 use Rattle.domain.specs.Ideals.{is_agreed, change_of, skips_none, accepts, fed}
-use Rattle.domain.specs.Claim.{made, agreed, answered, unmade, Safe}
+use Rattle.domain.specs.Claim.{made, answered, unmade, Safe}
 use Rattle.domain.proofs.Wrote.{entry, share_named, log-before}
 use Rattle.domain.proofs.Ends.{switch-set, controller-set}
 use Rattle.domain.proofs.Numbers.{at_member}
 use Rattle.domain.proofs.Theorem.{demand3}
 use Rattle.witness.specs.Played.{rounds}
-use Rattle.witness.specs.Evening.{outage, evening, by_port, share, agrees, writes, arrives, evening-calls, answers}
+use Rattle.witness.specs.Evening.{outage, evening, by_port, share, agrees, writes, arrives, evening_calls, answers}
 use Rattle.witness.proofs.Deliveries.{honest_call, share-arrives, stray_arrives}
 use Rattle.witness.proofs.Extended.{all_in_run}
 use Rattle.witness.proofs.Played.{rounds-follow, brought_to_end}
@@ -61,7 +61,7 @@ log =
     ∷ entry (agrees 0) 0 []
     ∷ []
 
-log_is : (after evening-calls).log ≡ log
+log_is : (after evening_calls).log ≡ log
 unfolding step upd
 log_is =
     rw (
@@ -87,22 +87,22 @@ log_is =
       writes-share 2 (omega arith),
     )
 
-pub answers_are : map (λ (d : Done). d.answer) (after evening-calls).log ≡ reverse answers
+pub answers_are : map (λ (d : Done). d.answer) (after evening_calls).log ≡ reverse answers
 answers_are = rw log_is
 
 -- the log when k calls were made
 abbrev first : ℕ → List Call
-first k = take k evening-calls
+first k = take k evening_calls
 
 abbrev log_at : ℕ → List Done
-log_at k = drop (length (drop k evening-calls)) log
+log_at k = drop (length (drop k evening_calls)) log
 
 log_at_lem : (k : ℕ) → (after (first k)).log ≡ log_at k
 log_at_lem k =
-    let rest = drop k evening-calls in
+    let rest = drop k evening_calls in
     sym (log-before evening (after (first k)) rest)
     ∙ ap (λ (r : Run). drop (length rest) r.log)
-    (sym (run-append (step evening) (start evening) (first k) rest) ∙ ap after (take-append-drop k evening-calls))
+    (sym (run-append (step evening) (start evening) (first k) rest) ∙ ap after (take-append-drop k evening_calls))
     ∙ ap (drop (length rest)) log_is
 
 -- the shares that arrive: those of the stray, and those that were written before
@@ -128,7 +128,7 @@ there k i l = at_member (log_at k) i (entry (agrees 0) 0 []) l
 
 -- each controller that keeps the rules took the one decision
 decided_once : (test : ℕ → Bool) → test 0 ≡ true → (c : ℕ) → Keeps evening c
-    → decisions test c (after evening-calls).log ≡ outage ∷ []
+    → decisions test c (after evening_calls).log ≡ outage ∷ []
 unfolding decisions
 decided_once test some zero keeps = rw (log_is, some)
 decided_once test some (suc zero) keeps = rw (log_is, some)
@@ -137,10 +137,10 @@ decided_once test some (suc (suc (suc zero))) keeps = tf refl keeps.1
 decided_once test some (suc (suc (suc (suc c)))) keeps = absurd (omega (arith, keeps.0))
 
 -- the evening is within the premises
-pub fair : Premises evening evening-calls
+pub fair : Premises evening evening_calls
 unfolding every_tail every
 fair = record {
-  in_run_lem = all_in_run evening (start evening) evening-calls refl;
+  in_run = all_in_run evening (start evening) evening_calls refl;
   unforged = (
     tt,
     (
@@ -156,14 +156,14 @@ fair = record {
               (
                 tt,
                 (
-                  written 7 1 (premises.by-controller (there 7 0 (omega arith))),
+                  written 7 1 (premises.by_controller (there 7 0 (omega arith))),
                   (
-                    written 8 1 (premises.by-controller (there 8 1 (omega arith))),
+                    written 8 1 (premises.by_controller (there 8 1 (omega arith))),
                     (
                       tt,
                       (
-                        written 10 2 (premises.by-controller (there 10 0 (omega arith))),
-                        (written 11 0 (premises.by-controller (there 11 5 (omega arith))), tt),
+                        written 10 2 (premises.by_controller (there 10 0 (omega arith))),
+                        (written 11 0 (premises.by_controller (there 11 5 (omega arith))), tt),
                       ),
                     ),
                   ),
@@ -179,35 +179,35 @@ fair = record {
 }
 
 -- what came of it: change 1 is made on switch 2, whatever the stray asked for, and change 2 is not yet made
-pub made_so_far : answered evening (after evening-calls) ≡ 1 ∷ []
+pub made_so_far : answered evening (after evening_calls) ≡ 1 ∷ []
 unfolding made be num field
 made_so_far = rw log_is
 
 abbrev table_by : ℕ → Table
 table_by port = table_of (record { prefix = 167772160; length = 8; port = port } ∷ [])
 
-pub table_2 : ((after evening-calls).switches 2).table ≡ table_by 3
+pub table_2 : ((after evening_calls).switches 2).table ≡ table_by 3
 unfolding step upd set_entry
 table_2 = rw (switch-set evening valid 2 (omega arith), misled, holds, repeats, makes, late)
 
-pub last_5 : ((after evening-calls).switches 5).last ≡ 0
+pub last_5 : ((after evening_calls).switches 5).last ≡ 0
 unfolding step upd
 last_5 = rw (switch-set evening valid 5 (omega arith), ahead)
 
-remain : unmade evening (agreed_changes (playbook evening) (outage ∷ [])) (after evening-calls) ≡ 1
+remain : unmade evening (agreed_changes (playbook evening) (outage ∷ [])) (after evening_calls) ≡ 1
 unfolding count among
 remain = rw (agreed_are, made_so_far)
 
 -- so one full round more makes all
 abbrev pub whole-evening : List Call
-whole-evening = evening-calls ++ rounds evening 1 (after evening-calls)
+whole-evening = evening_calls ++ rounds evening 1 (after evening_calls)
 
 pub whole_fair : Premises evening whole-evening
-whole_fair = rounds-follow evening valid evening-calls fair 1
+whole_fair = rounds-follow evening valid evening_calls fair 1
 
 near_made : is_among 2 (answered evening (after whole-evening)) ≡ true
 near_made =
-    let ends = brought_to_end evening valid evening-calls fair (outage ∷ [])
+    let ends = brought_to_end evening valid evening_calls fair (outage ∷ [])
     (λ c keeps. ([], decided_once is_brought refl c keeps)) in
     rw remain at (ends (numbered 1 2 near) (rw agreed_are (Memᴰ.tail (Memᴰ.head refl))))
 

@@ -54,7 +54,7 @@ module _ (S : Setting) (v : Valid S) where
   pub fair_join : (r : Run) (xs ys : List Call) → Fair S v r xs → Fair S v (run (step S) r xs) ys
       → Fair S v r (xs ++ ys)
   fair_join r xs ys f g = record {
-    in_run_lem = every_join (step S) (InRun S) r xs ys f.in-run g.in-run;
+    in_run = every_join (step S) (InRun S) r xs ys f.in_run g.in_run;
     unforged = every_join (step S) (Unforged S) r xs ys f.unforged g.unforged;
     begun = subst (Begun S) (sym (run-append (step S) r xs ys)) g.begun;
   }
@@ -63,7 +63,7 @@ module _ (S : Setting) (v : Valid S) where
       → Premises S (calls ++ more)
   premises_join calls more p f =
       let all = fair_join (start S) calls more (premises_fair S v calls p) f in
-      record { in_run_lem = all.in-run; unforged = all.unforged; beginning = all.begun }
+      record { in_run = all.in_run; unforged = all.unforged; beginning = all.begun }
 
   -- only a decision adds to what was brought
   pub begun_on : (r : Run) (x : Call) → NoDecision x → Begun S r → Begun S (step S r x)
@@ -76,7 +76,7 @@ module _ (S : Setting) (v : Valid S) where
   -- one call more
   pub fair_call : (r : Run) (x : Call) → InRun S r x → Unforged S r x → NoDecision x → Begun S r
       → Fair S v r (x ∷ [])
-  fair_call r x h honest quiet b = record { in_run_lem = (h, tt); unforged = (honest, tt); begun = begun_on r x quiet b }
+  fair_call r x h honest quiet b = record { in_run = (h, tt); unforged = (honest, tt); begun = begun_on r x quiet b }
 
   module _ (calls : List Call) (p : Premises S calls) where
     abbrev r : Run

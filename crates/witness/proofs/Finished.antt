@@ -87,7 +87,7 @@ module _ (S : Setting) where
   none_finished : Finished S [] []
   unfolding decisions agreed_changes
   none_finished = record {
-    within = record { in_run_lem = tt; unforged = tt; beginning = λ c keeps. (S.agreed, refl) };
+    within = record { in_run = tt; unforged = tt; beginning = λ c keeps. (S.agreed, refl) };
     all_brought = λ c keeps. refl;
     all_made = λ u h. absurd (Memᴰ.not-nil h);
   }

@@ -30,7 +30,7 @@ use Rattle.domain.specs.Premises.{SwitchWrote, ControllerWrote, InRun, Unforged,
 use Rattle.domain.specs.Premises as premises
 use Rattle.domain.specs.Rounds.{acknowledgement_now, share_now, Delivered, Round}
 use Rattle.domain.specs.Claim.{changes_of, answered, unmade, AllBrought}
-use Rattle.domain.proofs.Reached.{Begun, Reached, ranged, last_small, run_reached}
+use Rattle.domain.proofs.Reached.{Begun, Reached, run_reached}
 use Rattle.domain.proofs.Wrote.{entry, logged, share-wrote, switch-wrote}
 use Rattle.domain.proofs.Delivered.{switch-key, controller-key, acknowledgement-answered}
 use Rattle.domain.proofs.Turns.{Fair, walked}
@@ -42,7 +42,7 @@ use Rattle.witness.proofs.Extended.{NoDecision, fair_join, fair_call, premises_j
 
 module _ (S : Setting) (v : Valid S) where
   pub nothing_fair : (r : Run) → Begun S r → Fair S v r []
-  nothing_fair r b = record { in_run_lem = tt; unforged = tt; begun = b }
+  nothing_fair r b = record { in_run = tt; unforged = tt; begun = b }
 
   -- a list of calls for each number below k: within the premises if each is, wherever it begins
   pub each_fair : (k : ℕ) (calls : Run → ℕ → List Call)
@@ -97,7 +97,7 @@ module _ (S : Setting) (v : Valid S) where
         let kept = ap₂ (entry acknowledging) none whole in
         let next = step S r acknowledging in
         let wrote : SwitchWrote next.log s c bytes =
-        rw (logged S r acknowledging) (premises.by-switch {kind = acknowledgement} (Memᴰ.head (sym kept))) in
+        rw (logged S r acknowledging) (premises.by_switch {kind = acknowledgement} (Memᴰ.head (sym kept))) in
         let named = rw whole at (switch-wrote S r R frame 0 acknowledgement s c l none) in
         at_once r b acknowledging (at_controller c (controller.receives bytes)) l tt tt keeps
         (switch-arrives S next s c bytes named wrote) tt
@@ -121,7 +121,7 @@ module _ (S : Setting) (v : Valid S) where
         let kept = ap₂ (entry sharing) none whole in
         let next = step S r sharing in
         let wrote : ControllerWrote next.log c s bytes =
-        rw (logged S r sharing) (premises.by-controller (Memᴰ.head (sym kept))) in
+        rw (logged S r sharing) (premises.by_controller (Memᴰ.head (sym kept))) in
         let named = rw whole at (share-wrote S r R frame 0 c s keeps none) in
         at_once r b sharing (at_switch s (receives bytes)) keeps tt tt l (share-arrives S next s c bytes named wrote) tt
 

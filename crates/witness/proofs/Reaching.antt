@@ -30,7 +30,7 @@ module _ (S : Setting) (v : Valid S) (few : FewAgreed S) where
   decisions_reach =
       let all = all_brought S few v [] S.agreed refl (start S) (start_reached S v) (λ c keeps. refl) in
       record {
-        within = record { in_run_lem = all.0.in-run; unforged = all.0.unforged; beginning = all.0.begun };
+        within = record { in_run = all.0.in_run; unforged = all.0.unforged; beginning = all.0.begun };
         all_brought = all.1;
         makes = silent_makes S (start S) (bringing S S.agreed) (bringing_silent S S.agreed (start S));
       }
@@ -48,13 +48,13 @@ module _ (S : Setting) (v : Valid S) (few : FewAgreed S) where
       let ended = run-append (step S) (start S) calls more in
       record {
         within = premises_join S v calls more before.within
-            (asking_fair S v k ms h.0 r R begun before.all-brought before.makes);
+            (asking_fair S v k ms h.0 r R begun before.all_brought before.makes);
         all_brought = λ c keeps.
             ap (λ (u : Run). brought c u.log) ended
-            ∙ asking-brought S v k ms h.0 r R begun before.all-brought before.makes c keeps;
+            ∙ asking-brought S v k ms h.0 r R begun before.all_brought before.makes c keeps;
         makes =
             ap (answered S) ended
-            ∙ asking-makes S v k ms h.0 r R begun before.all-brought before.makes;
+            ∙ asking-makes S v k ms h.0 r R begun before.all_brought before.makes;
       }
 
   -- the calls that specs/Reaching lists make exactly these numbers

@@ -1,5 +1,5 @@
 -- Numbers of which the ideal controller refuses none may be made one after another: what it asks of a number is what
--- the protocol asks of the next one. The converse is domain's fed-lawful.
+-- the protocol asks of the next one. The converse is domain's fed_lawful.
 use mathlib.Core.Path.{◌≡◌, refl, ap}
 use mathlib.Core.Bool.{true, not, ◌&&◌, ◌||◌}
 use mathlib.Core.List.{List, [], ◌∷◌}

@@ -26,7 +26,7 @@ use Rattle.domain.specs.Settings.{Decision, Setting, Valid, Keeps, controller_ke
 use Rattle.domain.specs.Calls.{Call, Run, step}
 use Rattle.domain.specs.Premises.{brought}
 use Rattle.domain.specs.Rounds.{share_now}
-use Rattle.domain.specs.Claim.{changes_of, agreed, answered}
+use Rattle.domain.specs.Claim.{changes_of, answered}
 use Rattle.domain.proofs.View.{domain_of, view_controller, view}
 use Rattle.domain.proofs.Agreed.{laws, change-fine}
 use Rattle.domain.proofs.Undone.{last_given}
@@ -134,7 +134,7 @@ module _ (S : Setting) (v : Valid S) (k : ℕ) (ms : List ℕ) (n : Next (domain
             let order = (laws S v (ranged S v)).lower k j waits in
             told_after S v r R first f c keeps (λ t low. told S v t c low keeps r) j
             (order.0, omega (arith, order.1, n.agreed.1))
-            (R.invariant.safe.highest j (rw (← numbers_are r.log, so_far) (n.none-skipped j waits)));
+            (R.invariant.safe.highest j (rw (← numbers_are r.log, so_far) (n.none_skipped j waits)));
       };
     }
 

@@ -49,8 +49,8 @@ abbrev pub arrives : ℕ → ℕ → ℕ → ℕ → Call
 arrives c s k port = at_switch s (receives (share c s k port))
 
 -- the calls
-abbrev pub evening-calls : List Call
-evening-calls =
+abbrev pub evening_calls : List Call
+evening_calls =
     agrees 0 ∷ agrees 1 ∷ agrees 2
     ∷ arrives 3 2 1 9 ∷ arrives 3 5 2 2
     ∷ writes 0 ∷ writes 1

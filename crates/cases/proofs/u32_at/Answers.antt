@@ -1,0 +1,11 @@
+-- `u32_at` meets its contract: each byte is the one at its place. Assumes nothing.
+use Rattle.cases.proofs.u32_at.Goals as goal
+
+pub returns : goal.returns
+returns c = rw (
+  ← c.byte_at.ensures,
+  ← c.byte_at-2.ensures,
+  ← c.byte_at-3.ensures,
+  ← c.byte_at-4.ensures,
+)
+    c.u32_of.ensures

@@ -1,0 +1,19 @@
+-- `change` meets its contract, by the action's variant. Assumes nothing.
+use mathlib.Core.Path.{sym, ap, ◌∙◌}
+use Rattle.flow.specs.Tables.{entries_of, table_of}
+use Rattle.flow.proofs.Places.{apply_remove, apply_set}
+use Rattle.flow.proofs.changes.change.Goals as goal
+
+pub set_entry-requires : goal.set_entry-requires
+set_entry-requires c = let set = apply_set c.args.rule c.in-Set.port (entries_of c.args.t) c.in-Set.is in
+    (c.requires.0, rw set at c.requires.1)
+
+pub returns-in-Remove : goal.returns-in-Remove
+returns-in-Remove c = let a = c.args in
+    let removal = apply_remove a.rule (entries_of a.t) c.in-Remove.is in
+    c.remove_entry.ensures ∙ ap table_of (sym removal)
+
+pub returns-in-Set : goal.returns-in-Set
+returns-in-Set c = let a = c.args in
+    let set = apply_set a.rule c.in-Set.port (entries_of a.t) c.in-Set.is in
+    c.set_entry.ensures ∙ ap table_of (sym set)

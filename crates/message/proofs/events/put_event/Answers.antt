@@ -1,0 +1,9 @@
+-- `put_event` meets its contract: each field is stored after the one before it. Assumes nothing.
+use Rattle.message.proofs.Frames.{event-put}
+use Rattle.message.proofs.events.put_event.Goals as goal
+
+-- each name is the place after the field of that name is put
+pub returns : goal.returns
+returns c = let start = c.args.part.now in
+    event-put start _ _ _ _ c.requires c.put_u8.ensures c.put_u8-2.ensures c.put_u8-3.ensures
+    c.put_u32.ensures c.put_u8-4.ensures
