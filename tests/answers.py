@@ -4,8 +4,9 @@
 
 Each constant is a row with its number, and each row a constant. A sentence that the code prints for an answer stands in
 that answer's row. A sentence of a row is one that the code prints for that answer: in an arm of a match or a test of
-the answer, or in a function that is called there. In a row `..` stands for what is printed between two texts. Where a
-command knows --strict, a list of numbers in bin/ has exactly the rows that are marked so.
+the answer, or in a function that is called there. In a row `..` stands for what is printed between two texts, as a
+placeholder does in the code. Where a command knows --strict, a list of numbers in bin/ has exactly the rows that are
+marked so.
 """
 import glob
 import os
@@ -14,10 +15,12 @@ import sys
 
 CONSTANT = re.compile(r"(?m)^pub const (\w+): u8 = (\d+);$")
 ROW = re.compile(r"(?m)^\| (\d+) \| (\w+) \|(.*)\|$")
-TEXT = r'b"((?:[^"\\]|\\.)*)"'
-SAID = re.compile(r"answer::([A-Z_]+) =>\s*(?:\{\s*)?say\(\s*(?:\w+,\s*)?" + TEXT)
-CASE = re.compile(r"answer::([A-Z_]+)(?: =>|[^={};]*\{)(.*?)(?=\n\s*(?:\}|_ =>|answer::)|\Z)", re.S)
-FUNCTION = re.compile(r"(?ms)^(?:pub(?:\(crate\))? )?fn (\w+)\(.*?^\}")
+TEXT = r'(?<!b)"((?:[^"\\]|\\.)*)"'
+PLACEHOLDER = re.compile(r"(?:\{[^{}]*\})+")
+NAMED = re.compile(r"(?m)^(?:pub )?const (\w+): &str = " + TEXT + ";$")
+SAID = re.compile(r"answer::([A-Z_]+) =>\s*(?:\{\s*)?(?:f\.write_str\(\s*|write!\(\s*f,\s*)?" + TEXT)
+CASE = re.compile(r"answer::([A-Z_]+)(?:(?: if [^\n]*)? =>|[^={};]*\{)(.*?)(?=\n\s*(?:\}|_ =>|answer::)|\Z)", re.S)
+FUNCTION = re.compile(r"(?ms)^( *)(?:pub(?:\(crate\))? )?fn (\w+)[(<].*?^\1\}")
 CALL = re.compile(r"\b([a-z_]+)\(")
 STRICT = re.compile(r"(?m)^\| (\d+) \|.*\| [^|]*\bstrict\b[^|]* \|$")
 LIST = re.compile(r"\d+(?:(?: ?\| ?|,?\s+(?:or\s+|and\s+)?)\d+){4,}")
@@ -43,9 +46,19 @@ def rows(page):
     return found
 
 
+def spoken(text):
+    """A text of the code as a row has it."""
+    return PLACEHOLDER.sub("..", text).strip()
+
+
+def fits(sentence, text):
+    """Whether a row's sentence is a text of the code."""
+    return re.fullmatch(".+".join(re.escape(part) for part in sentence.split("..")), text)
+
+
 def texts(code, functions, seen):
     """All texts of a piece of code, and of the functions that it calls."""
-    found = {text.strip() for text in re.findall(TEXT, code)}
+    found = {spoken(text) for text in re.findall(TEXT, code)}
     for name in CALL.findall(code):
         if name in functions and name not in seen:
             seen.add(name)
@@ -55,10 +68,14 @@ def texts(code, functions, seen):
 
 def printed(code):
     """The sentences that stand in an answer's own arm, by name; and all texts that may be printed for it."""
-    functions = {match.group(1): match.group(0) for match in FUNCTION.finditer(code)}
+    for name, text in NAMED.findall(code):
+        code = re.sub(r"=> (\w+::)*%s\b|\b(f\.write_str\()(\w+::)*%s\b" % (name, name),
+                      lambda place: (place.group(2) or "=> ") + '"%s"' % text, code)
+    functions = {match.group(2): match.group(0) for match in FUNCTION.finditer(code)}
     own, reached = {}, {}
     for name, text in SAID.findall(code):
-        own.setdefault(name, set()).add(text.strip())
+        if re.search("[a-z]", spoken(text)):
+            own.setdefault(name, set()).add(spoken(text))
     for name, piece in CASE.findall(code):
         reached.setdefault(name, set()).update(texts(piece, functions, set()))
     return own, reached
@@ -66,12 +83,12 @@ def printed(code):
 
 def in_words(name, sentences, own, reached):
     """What is wrong with the sentences of a row."""
-    wrong = [f"{name} is told as '{text}', which its row has not" for text in own.get(name, set()) - set(sentences)]
+    wrong = [f"{name} is told as '{text}', which its row has not" for text in own.get(name, set())
+             if not any(fits(sentence, text) for sentence in sentences)]
     if not sentences:
         wrong.append(f"{name} has no words")
     for sentence in sentences:
-        parts = {part.strip() for part in sentence.split("..")} - {""}
-        if not parts <= reached.get(name, set()):
+        if not any(fits(sentence, text) for text in reached.get(name, set())):
             wrong.append(f"{name} is never told as '{sentence}'")
     return wrong
 

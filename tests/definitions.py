@@ -344,7 +344,8 @@ def rehearsed(c):
     inputs += [(name, s) for name, s, lines in rehearsals.cases()]
     for name, s in inputs:
         if len(s) <= LONGEST and len(trials.read_first(s[1:])[3]) <= MOST_CHANGES:
-            c.same(name + " begun", c.of["rehearsal", "begun_of"](tuple(s))["answer"], rehearsals.begun(s)[0])
+            begun = c.of["rehearsal", "begun_of"](tuple(s))
+            c.same(name + " begun", begun.parts[0] if begun.case == "Err" else 0, rehearsals.begun(s)[0])
             lines = rehearsals.rehearse(s)
             if len(lines) <= MOST_LINES or name.startswith("script"):
                 printed = c.of["rehearsal", "rehearsed"](tuple(s), (0,) * 1000)

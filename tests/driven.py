@@ -89,8 +89,15 @@ class SwitchCalls:
             found = self.flow["flow", "lookup_of"](address, self.flow["flow", "entries_of"](self.state["table"]))
         else:
             found = self.of("looked_up", self.state, address)
-        word = "forwarded " if letter == "T" else "looked up "
-        return word + " ".join([found.case.lower()] + [str(part) for part in found.parts])
+        return ("forwarded " if letter == "T" else "looked up ") + self.found(found)
+
+    @staticmethod
+    def found(found):
+        """What a lookup comes to: a refusal, or a port or none."""
+        if found.case == "Ok":
+            found = found.parts[0]
+        word = {"Err": "refused", "Some": "port", "None": "nothing"}.get(found.case, found.case.lower())
+        return " ".join([word] + [str(part) for part in found.parts])
 
 
 class ControllerCalls:
@@ -128,7 +135,7 @@ class ControllerCalls:
 
     def replied(self, word, reply, more=""):
         self.state, offer = reply["state"], reply["offer"]
-        offered = " offered %d %d %d" % offer.parts if offer.case == "Event" else ""
+        offered = " offered %(switch)d %(serial)d %(cause)d" % offer.parts[0] if offer.case == "Some" else ""
         return "%s %d%s%s%s" % (word, reply["answer"], offered, self.text(self.state), more)
 
     def alter(self, field, rest):

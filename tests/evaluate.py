@@ -73,6 +73,8 @@ LIBRARY = {
     "bit_and": lambda a, b: a & b, "bit_or": lambda a, b: a | b, "bit_xor": lambda a, b: a ^ b,
     "ones": lambda a: bin(a).count("1"),
 }
+# The cases of the libraries' types.
+CASES = {"Some", "None", "Ok", "Err"}
 INFIX = {"+": "({} + {})", "-": "max({} - {}, 0)", "*": "({} * {})", "/": "({} // {})", "%": "({} % {})",
          "^": "({} ** {})", "&&": "({} and {})", "||": "({} or {})", "∷": "(({},) + {})", "++": "({} + {})"}
 
@@ -106,11 +108,11 @@ class Definitions:
         if (path, name) in self.named or (path, "◌%s◌" % name) in self.named:
             return self.named.get((path, name)) or self.named[path, "◌%s◌" % name]
         used = uses.files.get(of) if of else uses.names.get(name)
-        if used and antt.declared(used):
+        if used and (antt.declared(used) or last in CASES):
             return "case"
         if used and antt.spec_of(used):
             return self.named[antt.spec_of(used), last]
-        return "library" if last in LIBRARY else None
+        return "library" if last in LIBRARY else "case" if last in CASES else None
 
     def compiled(self, d):
         """How many arguments a definition takes, and its name in Python."""

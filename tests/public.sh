@@ -1,6 +1,6 @@
 #!/bin/sh
 # Every public function takes every input, and says what it gives: none has a `requires`, and each has an `ensures`, but
-# for those that only print: these return nothing and are lent nothing to write but the text that waits to be printed.
+# for the methods of prose that collect text and write it. (What prints by `fmt` is no public function of its own.)
 # (What is for its own crate alone is pub(crate).) The check itself is tried on functions that it must refuse.
 set -u
 script=public.sh
@@ -12,9 +12,11 @@ faults() {
         function closed() {
             if (!open) return
             if (requires) print at ": " name " has a requires"
-            if (name !~ /^(prose::say|(prose|faults|story|cases)::say_[a-z_]*)$/) {
+            if (name !~ /^prose::(new|write_bytes|end)$/) {
                 if (!ensures) print at ": " name " has no ensures"
-            } else if (head ~ /->|&mut/) print at ": " name " does more than print"
+            } else if (head !~ /\(\) -> [A-Z][a-z]*$|\((&mut |mut )?self(, bytes: &\[u8\])?\)$/) {
+                print at ": " name " does more than print"
+            }
             open = 0
         }
         FNR == 1 { closed() }
@@ -29,7 +31,7 @@ faults() {
         }
         open && /^[ \t]*requires/ { requires = 1 }
         open && /^[ \t]*ensures/ { ensures = 1 }
-        open && !ensures && !requires { head = head $0; sub(/out: &mut \[u8; OUT\]/, "", head) }
+        open && !ensures && !requires { head = head $0; sub(/[ \t]*\{[ \t]*$/, "", head) }
         open && /\{[ \t]*$/ { closed() }
         END { closed() }
     ' {} +
@@ -53,11 +55,11 @@ refuses one 'one::f has no ensures' 'pub extern "C" fn f(\n    x: &mut [u8],\n) 
 refuses one 'one::f has a requires' "pub fn f(x: u8) -> u8\n    requires { x ≤ 1 }\n$promise{\n    x\n}\n"
 refuses one 'one::say_it has no ensures' 'pub fn say_it(x: u8) {\n    say(x);\n}\n'
 refuses one '' 'pub(crate) fn f(x: u8) -> u8 {\n    x\n}\n'
-refuses story '' 'pub fn say_it(x: u8) {\n    say(x);\n}\n'
-refuses story 'story::say_it does more than print' 'pub fn say_it(x: u8) -> u8 {\n    x\n}\n'
-refuses story '' 'pub fn say_it(out: &mut [u8; OUT], x: u8) {\n    say(out, x);\n}\n'
-refuses story 'story::say_it does more than print' 'pub fn say_it(out: &mut [u8; OUT], x: &mut [u8]) {\n    x[0] = 0;\n}\n'
-refuses story 'story::say_it does more than print' 'pub fn say_it(\n    x: &mut [u8],\n) {\n    x[0] = 0;\n}\n'
+refuses prose '' 'pub fn end(mut self) {\n    self.flush();\n}\n'
+refuses prose '' 'pub fn write_bytes(&mut self, bytes: &[u8]) {\n    self.put(bytes);\n}\n'
+refuses prose 'prose::end does more than print' 'pub fn end(mut self) -> u8 {\n    1\n}\n'
+refuses prose 'prose::write_bytes does more than print' 'pub fn write_bytes(&mut self, bytes: &mut [u8]) {\n    bytes[0] = 0;\n}\n'
+refuses prose 'prose::say has no ensures' 'pub fn say(&mut self) {\n    self.flush();\n}\n'
 
 found=$(faults crates)
 [ -z "$found" ]

@@ -48,9 +48,9 @@ class Text:
             text = file.read()
         self.path = path
         self.head = " ".join(line[2:].strip() for line in re.match(r"(?://.*\n)*", text).group().split("\n"))
-        self.uses = antt.Uses(re.findall(r"(?m)^(?:ghost )?(use .*?);?$", text))
+        self.uses = antt.Uses(re.findall(r"(?m)^ *(?:ghost )?(use .*?);?$", text))
         self.crates = {name: crate for crate, name in re.findall(r"(?m)^use (\w+)(?:::\w+)*::(\w+);", text)}
-        self.text = re.sub(r"(?m)^(?:ghost )?use .*$|(^|\s)(--|//)\s.*$", "", text)
+        self.text = re.sub(r"(?m)^ *(?:ghost )?use .*$|(^|\s)(--|//)\s.*$", "", text)
 
 
 def crate_of(path):
@@ -79,7 +79,9 @@ class Base:
         used = uses.files.get(of) if of else uses.names.get(name)
         if local or not used:
             return local
-        return self.types[antt.declared(used)] if antt.declared(used) else self.named.get((antt.spec_of(used), last))
+        if antt.declared(used):
+            return self.types.get(antt.declared(used))
+        return self.named.get((antt.spec_of(used), last))
 
     def type_meant(self, code, word):
         crate = code.crates.get(word, "crate")

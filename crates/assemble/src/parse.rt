@@ -1,12 +1,13 @@
-// How far a line is read: the bytes of its record so far, and the first fault. A function that reads on leaves a parse
-// that has a fault as it is.
-use crate::faults::{Fault, is_none};
-use crate::words::{hex_of, past, word};
-use lists::same;
-use notation::LINE;
+// What a line is read by: the words that may stand there, numbers and bytes, and the first fault.
+ghost use Rattle.std.specs.Prelude.{◌≤◌, IfOk};
+
+use crate::pattern::Pattern;
+use crate::values::{decimal, hex_of};
+use crate::words::Words;
+use notation::{Field, Pair};
 
 // What the records before allow next: the first of all, any but shorthand, any, only further bytes, or none.
-#[derive(Clone, Copy)]
+#[derive(Clone, Copy, PartialEq, Eq)]
 pub(crate) enum Before {
     Nothing,
     Playbook,
@@ -15,192 +16,117 @@ pub(crate) enum Before {
     Bytes,
 }
 
+// What was expected where a line has a fault: 1 to 15 of docs/NOTATION.md, "What bad text gets", in their order;
+// `NumberOrAll` is 5 too.
 #[derive(Clone, Copy)]
-pub(crate) struct Parse {
-    // Where the next word is looked for.
-    pub(crate) at: usize,
-    pub(crate) bytes: [u8; LINE],
-    pub(crate) count: usize,
-    // The number read last.
-    pub(crate) value: u32,
-    // What the record leaves allowed.
+pub(crate) enum Expected {
+    Controllers,
+    NoRecord,
+    Record,
+    Field(Field),
+    Number { low: u32, high: u32 },
+    NumberOrAll,
+    Prefix,
+    Action,
+    Message,
+    Tag,
+    Byte,
+    End,
+    Early,
+    Name,
+    Share,
+    Key(Pair),
+}
+
+// What was expected, and the word that was found.
+#[derive(Clone, Copy)]
+pub(crate) struct Fault<'a> {
+    pub(crate) expected: Expected,
+    pub(crate) found: &'a [u8],
+}
+
+// How far a line is read.
+#[derive(Clone, Copy)]
+pub(crate) struct Line<'a> {
+    pub(crate) words: Words<'a>,
     pub(crate) before: Before,
-    // Whether the line stands for all controllers, for all switches, and for a full round.
-    pub(crate) controllers: bool,
-    pub(crate) switches: bool,
-    pub(crate) round: bool,
-    pub(crate) fault: Fault,
+    pub(crate) pattern: Pattern,
     // The fault that is told where the rest of the line has none.
-    pub(crate) late: Fault,
+    pub(crate) late: Option<Fault<'a>>,
 }
 
-pub(crate) fn begun(before: Before) -> Parse {
-    Parse {
-        at: 0,
-        bytes: [0; LINE],
-        count: 0,
-        value: 0,
-        before: before,
-        controllers: false,
-        switches: false,
-        round: false,
-        fault: Fault::None,
-        late: Fault::None,
+impl<'a> Line<'a> {
+    pub(crate) fn new(words: Words<'a>, before: Before) -> Line<'a> {
+        Line {
+            words,
+            before,
+            pattern: Pattern::new(),
+            late: None,
+        }
     }
-}
 
-pub(crate) fn is_fine(p: Parse) -> bool {
-    let fault = p.fault;
-    is_none(fault)
-}
-
-pub(crate) fn faulted(p: Parse, fault: Fault) -> Parse {
-    let bytes = p.bytes;
-    let before = p.before;
-    let late = p.late;
-    Parse {
-        at: p.at,
-        bytes: bytes,
-        count: p.count,
-        value: p.value,
-        before: before,
-        controllers: p.controllers,
-        switches: p.switches,
-        round: p.round,
-        fault: fault,
-        late: late,
+    pub(crate) fn fault(&self, expected: Expected) -> Fault<'a> {
+        Fault {
+            expected,
+            found: self.words.next,
+        }
     }
-}
 
-pub(crate) fn doubted(p: Parse, late: Fault) -> Parse {
-    let bytes = p.bytes;
-    let before = p.before;
-    let fault = p.fault;
-    Parse {
-        at: p.at,
-        bytes: bytes,
-        count: p.count,
-        value: p.value,
-        before: before,
-        controllers: p.controllers,
-        switches: p.switches,
-        round: p.round,
-        fault: fault,
-        late: late,
+    // Whether this word is the next one, which is passed then.
+    pub(crate) fn takes(&mut self, word: &[u8]) -> bool {
+        let is_next = self.words.is_next(word);
+        if is_next {
+            self.words.pass();
+        }
+        is_next
     }
-}
 
-pub(crate) fn leaving(p: Parse, before: Before) -> Parse {
-    let bytes = p.bytes;
-    let fault = p.fault;
-    let late = p.late;
-    Parse {
-        at: p.at,
-        bytes: bytes,
-        count: p.count,
-        value: p.value,
-        before: before,
-        controllers: p.controllers,
-        switches: p.switches,
-        round: p.round,
-        fault: fault,
-        late: late,
+    // Past the name of a field.
+    pub(crate) fn named(&mut self, field: Field) -> Result<(), Fault<'a>> {
+        let name = field.name().unwrap_or("");
+        if self.takes(name.as_bytes()) {
+            Ok(())
+        } else {
+            Err(self.fault(Expected::Field(field)))
+        }
     }
-}
 
-// The late fault is told now.
-pub(crate) fn settled(p: Parse) -> Parse {
-    let late = p.late;
-    if is_fine(p) { faulted(p, late) } else { p }
-}
-
-// Past the next word.
-pub(crate) fn passed(line: &[u8], p: Parse) -> Parse {
-    let at = p.at;
-    let mut q = p;
-    q.at = past(line, at);
-    q
-}
-
-// One byte further; no record has more than there is room for.
-pub(crate) fn with_byte(p: Parse, b: u8) -> Parse {
-    let n = p.count;
-    let mut q = p;
-    if n < LINE {
-        q.bytes[n] = b;
-        q.count = n + 1;
+    // A number from the one up to the other.
+    pub(crate) fn number(&mut self, low: u32, high: u32) -> Result<u32, Fault<'a>>
+        ensures { IfOk result (λ n. n ≤ high) }
+    {
+        match decimal(self.words.next) {
+            Some(n) if low <= n && n <= high => {
+                self.words.pass();
+                Ok(n)
+            }
+            _ => Err(self.fault(Expected::Number { low, high })),
+        }
     }
-    q
-}
 
-pub(crate) fn with_bytes(p: Parse, bytes: &[u8]) -> Parse {
-    let mut q = p;
-    let mut i: usize = 0;
-    while i < bytes.len() {
-        let next = with_byte(q, bytes[i]);
-        q = next;
-        i += 1;
+    // A byte in hexadecimal digits.
+    pub(crate) fn hex_byte(&mut self) -> Result<(), Fault<'a>> {
+        let Some(byte) = hex_of(self.words.next) else {
+            return Err(self.fault(Expected::Byte));
+        };
+        self.words.pass();
+        self.pattern.push(&[byte]);
+        Ok(())
     }
-    q
-}
 
-// The number read last, in one, two and four bytes.
-pub(crate) fn with_u8(p: Parse) -> Parse {
-    with_byte(p, (p.value % 256) as u8)
-}
-
-pub(crate) fn with_u16(p: Parse) -> Parse {
-    let q = with_byte(p, (p.value / 256 % 256) as u8);
-    with_u8(q)
-}
-
-pub(crate) fn with_u32(p: Parse) -> Parse {
-    let q = with_byte(p, (p.value / 0x100_0000) as u8);
-    let r = with_byte(q, (q.value / 0x1_0000 % 256) as u8);
-    with_u16(r)
-}
-
-pub(crate) fn has_word(line: &[u8], p: Parse) -> bool {
-    let at = p.at;
-    word(line, at).len() != 0
-}
-
-pub(crate) fn is_next(line: &[u8], p: Parse, expected: &[u8]) -> bool {
-    let at = p.at;
-    same(word(line, at), expected)
-}
-
-// No word is left.
-pub(crate) fn ended(line: &[u8], p: Parse) -> Parse {
-    if !is_fine(p) {
-        return p;
+    pub(crate) fn hex_bytes(&mut self, n: usize) -> Result<(), Fault<'a>> {
+        for _ in 0..n {
+            self.hex_byte()?;
+        }
+        Ok(())
     }
-    if has_word(line, p) {
-        return faulted(p, Fault::End);
-    }
-    p
-}
 
-// A byte in hexadecimal digits.
-pub(crate) fn hex_byte(line: &[u8], p: Parse) -> Parse {
-    if !is_fine(p) {
-        return p;
+    // No word is left.
+    pub(crate) fn ended(&self) -> Result<(), Fault<'a>> {
+        if self.words.next.is_empty() {
+            Ok(())
+        } else {
+            Err(self.fault(Expected::End))
+        }
     }
-    let at = p.at;
-    let x = hex_of(word(line, at));
-    if 255 < x {
-        return faulted(p, Fault::Byte);
-    }
-    with_byte(passed(line, p), x as u8)
-}
-
-pub(crate) fn hex_bytes(line: &[u8], p: Parse, n: usize) -> Parse {
-    let mut q = p;
-    let mut i: usize = 0;
-    while i < n {
-        let next = hex_byte(line, q);
-        q = next;
-        i += 1;
-    }
-    q
 }

@@ -1,119 +1,108 @@
 // The record of a line.
-use crate::faults::Fault;
-use crate::fields::fields;
-use crate::numbers::small;
-use crate::parse::{
-    Before, Parse, begun, doubted, ended, faulted, has_word, hex_byte, is_next, leaving, passed,
-    settled, with_byte,
-};
-use crate::words::word;
-use notation::{LINE, kinds};
+use crate::parse::{Before, Expected, Fault, Line};
+use crate::pattern::Pattern;
+use crate::words::Words;
+use notation::{Kind, LINE};
 
-fn controllers(line: &[u8], p: Parse) -> Parse {
-    if is_next(line, p, b"controllers") {
-        return leaving(small(line, passed(line, p)), Before::Playbook);
-    }
-    faulted(p, Fault::Controllers)
-}
-
-fn further_byte(line: &[u8], p: Parse) -> Parse {
-    if has_word(line, p) {
-        return hex_byte(line, p);
-    }
-    p
-}
-
-// One byte or more, as many as a line may have.
-fn bytes(line: &[u8], p: Parse) -> Parse {
-    let mut q = hex_byte(line, p);
-    let mut i: usize = 1;
-    while i < LINE {
-        let next = further_byte(line, q);
-        q = next;
-        i += 1;
-    }
-    if q.count == LINE {
-        leaving(q, Before::FullBytes)
-    } else {
-        leaving(q, Before::Bytes)
-    }
-}
-
-// The first bytes, which are doubted where they begin with a whole record.
-fn first_bytes(line: &[u8], p: Parse) -> Parse {
-    let q = bytes(line, p);
-    let found = q.bytes;
-    let size = notation::size_of(found[0]);
-    if size == 0 {
-        return q;
-    }
-    if q.count < size {
-        return q;
-    }
-    doubted(q, Fault::Name)
-}
-
-fn further_bytes(line: &[u8], p: Parse) -> Parse {
-    if is_next(line, p, b"bytes") {
-        return bytes(line, passed(line, p));
-    }
-    faulted(p, Fault::NoRecord)
-}
-
-// A full round: its reports here, and `round` for what it sends after them.
-fn round(line: &[u8], p: Parse) -> Parse {
-    let before = p.before;
-    match before {
-        Before::Script => {
-            let kind = with_byte(passed(line, p), kinds::REPORT);
-            let mut q = with_byte(with_byte(kind, 0), 0);
-            q.controllers = true;
-            q.switches = true;
-            q.round = true;
-            q
+// Each reads a record, and returns what it allows next.
+impl<'a> Line<'a> {
+    fn controllers(&mut self) -> Result<Before, Fault<'a>> {
+        if !self.takes(b"controllers") {
+            return Err(self.fault(Expected::Controllers));
         }
-        _ => faulted(p, Fault::Early),
+        self.small()?;
+        Ok(Before::Playbook)
+    }
+
+    // One byte or more, as many as a line may have.
+    fn bytes(&mut self) -> Result<Before, Fault<'a>> {
+        self.hex_byte()?;
+        for _ in 1..LINE {
+            if self.words.next.is_empty() {
+                break;
+            }
+            self.hex_byte()?;
+        }
+        if self.pattern.is_full() {
+            Ok(Before::FullBytes)
+        } else {
+            Ok(Before::Bytes)
+        }
+    }
+
+    // The first bytes, which are doubted where they begin with a whole record.
+    fn first_bytes(&mut self) -> Result<Before, Fault<'a>> {
+        let next = self.bytes()?;
+        if let Some(kind) = self.pattern.kind() {
+            if kind.size() <= self.pattern.bytes().len() {
+                self.late = Some(Fault {
+                    expected: Expected::Name,
+                    found: b"bytes",
+                });
+            }
+        }
+        Ok(next)
+    }
+
+    fn further_bytes(&mut self) -> Result<Before, Fault<'a>> {
+        if self.takes(b"bytes") {
+            return self.bytes();
+        }
+        Err(self.fault(Expected::NoRecord))
+    }
+
+    // A full round: its reports here, and `round` for what it sends after them.
+    fn round(&mut self) -> Result<Before, Fault<'a>> {
+        if self.before != Before::Script {
+            return Err(self.fault(Expected::Early));
+        }
+        self.words.pass();
+        self.pattern = Pattern::round();
+        Ok(Before::Script)
+    }
+
+    // A record of a kind; the script begins behind an end.
+    fn of_kind(&mut self, kind: Kind) -> Result<Before, Fault<'a>> {
+        self.words.pass();
+        self.pattern.push(&[u8::from(kind)]);
+        self.fields(kind)?;
+        if kind == Kind::End {
+            Ok(Before::Script)
+        } else {
+            Ok(self.before)
+        }
+    }
+
+    fn named_record(&mut self) -> Result<Before, Fault<'a>> {
+        if let Some(kind) = Kind::named(self.words.next) {
+            return self.of_kind(kind);
+        }
+        if self.takes(b"bytes") {
+            return self.first_bytes();
+        }
+        if self.words.is_next(b"round") {
+            return self.round();
+        }
+        Err(self.fault(Expected::Record))
+    }
+
+    fn record(&mut self) -> Result<Before, Fault<'a>> {
+        match self.before {
+            Before::Nothing => self.controllers(),
+            Before::Playbook | Before::Script => self.named_record(),
+            Before::FullBytes => self.further_bytes(),
+            Before::Bytes => Err(self.fault(Expected::NoRecord)),
+        }
     }
 }
 
-// A record of a kind; the script begins behind an end.
-fn of_kind(line: &[u8], p: Parse, kind: u8) -> Parse {
-    let q = fields(line, with_byte(passed(line, p), kind), kind);
-    if kind == kinds::END {
-        leaving(q, Before::Script)
-    } else {
-        q
+// What a line with these words stands for after those before, and what it allows next.
+pub(crate) fn record_of(words: Words<'_>, before: Before) -> Result<(Pattern, Before), Fault<'_>> {
+    let mut line = Line::new(words, before);
+    let next = line.record()?;
+    line.ended()?;
+    match line.late {
+        Some(fault) => Err(fault),
+        None => Ok((line.pattern, next)),
     }
-}
-
-fn named(line: &[u8], p: Parse) -> Parse {
-    let at = p.at;
-    let kind = notation::kind_named(word(line, at));
-    if kind != 0 {
-        return of_kind(line, p, kind);
-    }
-    if is_next(line, p, b"bytes") {
-        return first_bytes(line, passed(line, p));
-    }
-    if is_next(line, p, b"round") {
-        return round(line, p);
-    }
-    faulted(p, Fault::Record)
-}
-
-fn record(line: &[u8], p: Parse) -> Parse {
-    let before = p.before;
-    match before {
-        Before::Nothing => controllers(line, p),
-        Before::Playbook => named(line, p),
-        Before::Script => named(line, p),
-        Before::FullBytes => further_bytes(line, p),
-        Before::Bytes => faulted(p, Fault::NoRecord),
-    }
-}
-
-// The record of a line that has words, after those before.
-pub(crate) fn record_of(words: &[u8], before: Before) -> Parse {
-    let p = begun(before);
-    settled(ended(words, record(words, p)))
 }

@@ -1,49 +1,66 @@
-// The line on standard error that tells a fault.
-use crate::errors::{warn, warn_number, warn_word};
-use crate::faults::{Fault, warn_expected};
-use crate::hints::hint;
-use crate::parse::Parse;
-use crate::words::word;
+// Why a text is refused, in the words that are told on standard error.
+use crate::hints::Hint;
+use crate::parse::{Expected, Fault};
+use notation::Pair;
+use prose::Found;
+use std::fmt;
+use std::fmt::Write;
 
-fn tell_expected(number: usize) {
-    warn_number(number as u64);
-    warn(b": expected ");
-}
-
-fn warn_found(word: &[u8]) {
-    if word.len() == 0 {
-        warn(b"the end of the line");
-    } else {
-        warn_word(word);
+impl fmt::Display for Expected {
+    fn fmt<W: fmt::Write>(&self, f: &mut fmt::Formatter<W>) -> fmt::Result {
+        let words = match *self {
+            Expected::Controllers => "controllers",
+            Expected::NoRecord => "no record after bytes",
+            Expected::Record => {
+                "plan, change, end, decide, send, report, raw, keep, deliver, round or bytes"
+            }
+            Expected::Field(field) => {
+                let name = field.name().unwrap_or("");
+                return write!(f, "{name}");
+            }
+            Expected::Number { low, high } => {
+                return write!(f, "a number from {low} to {high}");
+            }
+            Expected::NumberOrAll => "a number from 0 to 255 or all",
+            Expected::Prefix => "an address and a length, as 10.0.0.0/8",
+            Expected::Action => "port or remove",
+            Expected::Message => "share or bytes",
+            Expected::Tag => "key or tag",
+            Expected::Byte => "a byte as two hexadecimal digits",
+            Expected::End => "the end of the line",
+            Expected::Early => "end on an earlier line",
+            Expected::Name => "the name of the record that these bytes are",
+            Expected::Share => "share, since these bytes are one",
+            Expected::Key(Pair { controller, switch }) => {
+                return write!(
+                    f,
+                    "key controller {controller} switch {switch}, which gives this tag"
+                );
+            }
+        };
+        f.write_str(words)
     }
 }
 
-// A fault at a word of a line, which has this number.
-fn tell_at(number: usize, words: &[u8], found: &[u8], fault: Fault) {
-    tell_expected(number);
-    warn_expected(fault);
-    warn(b", found ");
-    warn_found(found);
-    hint(found, word(words, 0), fault);
-    warn(b"\n");
+// Why a text is refused at a line.
+#[derive(Clone, Copy)]
+pub(crate) enum Problem<'a> {
+    // The line that begins with this name has a fault.
+    Faulty(&'a [u8], Fault<'a>),
+    // There are more bytes than may be, from this line on.
+    TooMany(usize, &'static str),
 }
 
-// The fault of a line: at the word where reading stopped, or at the word that such a fault is always about.
-pub(crate) fn tell(number: usize, words: &[u8], p: Parse) {
-    let at = p.at;
-    let fault = p.fault;
-    match fault {
-        Fault::Name | Fault::Share => tell_at(number, words, b"bytes", fault),
-        Fault::Key { controller, switch } => tell_at(number, words, b"tag", fault),
-        _ => tell_at(number, words, word(words, at), fault),
+impl fmt::Display for Problem<'_> {
+    fn fmt<W: fmt::Write>(&self, f: &mut fmt::Formatter<W>) -> fmt::Result {
+        match *self {
+            Problem::Faulty(name, fault) => {
+                let expected = fault.expected;
+                let found = Found(fault.found);
+                let hint = Hint { name, fault };
+                write!(f, "expected {expected}, found {found}{hint}")
+            }
+            Problem::TooMany(most, of) => write!(f, "expected at most {most} {of}, found more"),
+        }
     }
-}
-
-// There are more bytes than may be, from this line on.
-pub(crate) fn tell_most(number: usize, most: usize, of: &[u8]) {
-    tell_expected(number);
-    warn(b"at most ");
-    warn_number(most as u64);
-    warn(of);
-    warn(b", found more\n");
 }

@@ -8,74 +8,55 @@ ghost use Rattle.flow.specs.declared.Action.TheVariants.{Remove, Set};
 
 use flow::{Action, Rule};
 use lists::byte_at;
-use prose::OUT;
-pub use prose::say;
+use std::fmt;
 
 // How many bytes a frame has into which a message is written.
 pub const FRAME: usize = 64;
 
-// A number, with a space before it.
-fn say_number(out: &mut [u8; OUT], n: u64) {
-    say(out, b" ");
-    prose::say_number(out, n);
-}
+/// Bytes as hexadecimal digits, two for each.
+#[derive(Clone, Copy)]
+pub struct Hex<'a>(pub &'a [u8]);
 
-pub fn say_byte(out: &mut [u8; OUT], n: u8) {
-    say_number(out, n as u64);
-}
-
-pub fn say_port(out: &mut [u8; OUT], n: u16) {
-    say_number(out, n as u64);
-}
-
-pub fn say_word(out: &mut [u8; OUT], n: u32) {
-    say_number(out, n as u64);
-}
-
-pub fn say_size(out: &mut [u8; OUT], n: usize) {
-    say_number(out, n as u64);
-}
-
-fn say_hex_byte(out: &mut [u8; OUT], n: u8) {
-    let mut digits = [0u8; 16];
-    let k = io::hex(n as u64, 2, &mut digits);
-    say(out, &digits[..k]);
-}
-
-pub fn say_hex(out: &mut [u8; OUT], bytes: &[u8]) {
-    let mut i: usize = 0;
-    while i < bytes.len() {
-        say_hex_byte(out, bytes[i]);
-        i += 1;
+impl fmt::Display for Hex<'_> {
+    fn fmt<W: fmt::Write>(&self, f: &mut fmt::Formatter<W>) -> fmt::Result {
+        for byte in self.0 {
+            write!(f, "{byte:02x}")?;
+        }
+        Ok(())
     }
 }
 
-// An action, since a set of port 0 is no removal.
-fn say_action(out: &mut [u8; OUT], action: Action) {
-    match action {
-        Action::Remove => say(out, b" remove"),
-        Action::Set(port) => {
-            say(out, b" set");
-            say_port(out, port);
+/// A rule with its action, since a set of port 0 is no removal.
+#[derive(Clone, Copy)]
+pub struct WholeRule(pub Rule);
+
+impl fmt::Display for WholeRule {
+    fn fmt<W: fmt::Write>(&self, f: &mut fmt::Formatter<W>) -> fmt::Result {
+        let Rule {
+            prefix,
+            length,
+            action,
+        } = self.0;
+        match action {
+            Action::Remove => write!(f, "{prefix} {length} remove"),
+            Action::Set(port) => write!(f, "{prefix} {length} set {port}"),
         }
     }
 }
 
-// A rule with its action.
-pub fn say_whole_rule(out: &mut [u8; OUT], rule: Rule) {
-    let action = rule.action;
-    say_word(out, rule.prefix);
-    say_byte(out, rule.length);
-    say_action(out, action);
-}
+/// A rule with the port that it has in bytes.
+#[derive(Clone, Copy)]
+pub struct RuleFields(pub Rule);
 
-// A rule with the port that it has in bytes.
-pub fn say_rule(out: &mut [u8; OUT], rule: Rule) {
-    let action = rule.action;
-    let port = flow::port_of(action);
-    say_word(out, rule.prefix);
-    say_byte(out, rule.length);
-    say_port(out, port);
+impl fmt::Display for RuleFields {
+    fn fmt<W: fmt::Write>(&self, f: &mut fmt::Formatter<W>) -> fmt::Result {
+        let Rule {
+            prefix,
+            length,
+            action,
+        } = self.0;
+        write!(f, "{prefix} {length} {}", flow::port_of(action))
+    }
 }
 
 // The numbers in the two and in the four bytes from a place.

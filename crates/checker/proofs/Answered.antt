@@ -1,14 +1,14 @@
 -- What the check's answers mean for every run. The agreed changes of a setting's playbook and list, as `agree` lays them
--- out, are read back by `check`, so its answer 0 is the verdict that the theorems of isolation speak of, and 1 is a
--- failure that a run within the premises shows.
+-- out, are read back by `check`, so where it says that all is fine, that is the verdict that the theorems of isolation
+-- speak of, and a packet that it says fails is a failure that a run within the premises shows.
 use mathlib.Core.Path.{◌≡◌, refl, sym, ap, ◌∙◌}
 use mathlib.Core.Bool.{Bool, true, false, ◌&&◌}
 use mathlib.Core.List.{List}
 use Prim.Native.Nat.{ℕ, ◌≤◌}
-use native.Mathlib.Omega.{arith}
 use lib.Dec.{leb}
 use lib.ListN.{length}
 use borrow.Author.Tests.{leb-true}
+use Rattle.std.specs.Prelude.{Result, Ok, Err}
 use Rattle.answer.specs.Ask.{pick}
 use Rattle.answer.proofs.Bools.{and_parts}
 use Rattle.controller.specs.declared.Undone.{Undone}
@@ -24,86 +24,89 @@ use Rattle.isolation.proofs.Theorem.{always_wanted, always_isolated}
 use Rattle.isolation.proofs.InFlight.{isolated_in_flight}
 use Rattle.isolation.proofs.Reached.{no_reached}
 use Rattle.checker.specs.Layout.{changes_in, network_in}
-use Rattle.checker.specs.Checked.{aimed, plainly, outcome_of, is_network, checked_of}
-use Rattle.checker.specs.Agreeing.{laid_out, agreed_of}
+use Rattle.checker.specs.Checked.{aimed, outcome_of, is_network, checked_of}
+use Rattle.checker.specs.Agreeing.{laid_out, in_use, agreed_of}
+use Rattle.checker.specs.declared.Agreed.{Agreed}
 use Rattle.checker.specs.declared.Aim.{Aim}
 use Rattle.checker.specs.declared.Aim.TheVariants.{Resting, Losing, Moving}
-use Rattle.checker.specs.declared.Agreed.{Agreed}
-use Rattle.checker.specs.declared.Outcome.{Outcome}
+use Rattle.checker.specs.declared.FailingPacket.{FailingPacket}
+use Rattle.checker.specs.declared.Line.{Line}
+use Rattle.checker.specs.declared.PortLink.{PortLink}
+use Rattle.checker.specs.declared.Refusal.{Refusal}
+use Rattle.checker.specs.declared.Refusal.TheVariants.{Fails, NoNetwork}
 use Rattle.checker.proofs.Laid.{agreed_laid, agreed_back}
 
--- the verdict behind an answer
-yes_fine : (v : Verdict) → (outcome_of v).answer ≡ 0 → (left : ℕ) × (v ≡ fine left)
-yes_fine (fine left) e = (left, refl)
-yes_fine (fails f) e = absurd (omega arith)
-yes_fine undecided e = absurd (omega arith)
+-- the verdict behind an outcome
+yes_fine : (v : Verdict) (left : ℕ) → outcome_of v ≡ Ok left → v ≡ fine left
+yes_fine (fine b) left e = let same : b ≡ left = cc in ap fine same
+yes_fine (fails f) left e = cc
+yes_fine undecided left e = cc
 
-no_fails : (v : Verdict) → (outcome_of v).answer ≡ 1 → (f : Failure) × (v ≡ fails f)
-no_fails (fine left) e = absurd (omega arith)
-no_fails (fails f) e = (f, refl)
-no_fails undecided e = absurd (omega arith)
+no_fails : (v : Verdict) (packet : FailingPacket) → outcome_of v ≡ Err (Fails packet) → (f : Failure) × (v ≡ fails f)
+no_fails (fine b) packet e = cc
+no_fails (fails f) packet e = (f, refl)
+no_fails undecided packet e = cc
 
--- an answer that is not 3 is that of a network
-answers : (b : Bool) (r : Outcome) (k : ℕ) → k ≤ 2 → (pick b r (plainly 3 0)).answer ≡ k → (b ≡ true) × (r.answer ≡ k)
-answers true r k few e = (refl, e)
-answers false r k few e = absurd (omega arith)
+-- an outcome that says more than that there is no network is that of one
+answers : (b : Bool) (r told : Result ℕ Refusal) → (Err NoNetwork ≡ told → ⊥) → pick b r (Err NoNetwork) ≡ told
+    → (b ≡ true) × (r ≡ told)
+answers true r told some e = (refl, e)
+answers false r told some e = absurd (some e)
 
-module _ (S : Setting) (v : Valid S) (settled budget : ℕ) (links : List ℕ) (linked : ℕ) (traffic : List ℕ) (lines : ℕ) where
+module _ (S : Setting) (v : Valid S) (settled budget : ℕ) (links : List PortLink) (lines : List Line) where
   abbrev N : Network
-  N = network_in links linked traffic lines
+  N = network_in links lines
 
-  -- what the check answers about the agreed changes as they are laid out
-  abbrev pub reply_of : Aim → Agreed → Outcome
-  reply_of aim a = checked_of aim settled budget a.changes a.count links linked traffic lines
+  -- what the check answers about the agreed changes as they are laid out, where there is room for all of them
+  abbrev pub reply_of : Aim → Agreed → Result ℕ Refusal
+  reply_of aim a = pick (leb a.count 256) (checked_of aim settled budget (in_use a) links lines) (Err NoNetwork)
 
-  abbrev answer_of : Aim → ℕ
-  answer_of aim = (reply_of aim (agreed_of (playbook S) S.agreed)).answer
+  abbrev reply : Aim → Result ℕ Refusal
+  reply aim = reply_of aim (agreed_of (playbook S) S.agreed)
 
-  -- an answer below 3: the network is one, and the verdict is that on the agreed changes
-  record Said (aim : Aim) (k : ℕ) : Type 0 where
+  -- an outcome of a network is that of the verdict on the agreed changes
+  record Said (aim : Aim) (told : Result ℕ Refusal) : Type 0 where
     network : network_ok N ≡ true
-    verdict : (outcome_of (aimed aim (agreed S) settled N budget)).answer ≡ k
+    verdict : outcome_of (aimed aim (agreed S) settled N budget) ≡ told
 
-  said : (aim : Aim) (k : ℕ) → k ≤ 2 → answer_of aim ≡ k → Said aim k
+  said : (aim : Aim) (told : Result ℕ Refusal) → (Err NoNetwork ≡ told → ⊥) → reply aim ≡ told → Said aim told
   unfolding checked_of
-  said aim k few e =
+  said aim told some e =
       let us = agreed S in
-      let a = laid_out us in
-      let r : Outcome = outcome_of (aimed aim (changes_in a.changes a.count) settled N budget) in
-      let both = answers (is_network a.count N linked lines) r k few
-      (sym (ap (λ (x : Agreed). (reply_of aim x).answer) (agreed_laid S)) ∙ e) in
-      let parts = and_parts (leb (length us) 256 && leb linked 256 && leb lines 64) (network_ok N) both.0 in
-      let first = (and_parts (leb (length us) 256) _ (and_parts (leb (length us) 256 && leb linked 256) _ parts.0).0).0 in
+      let cs = in_use (laid_out us) in
+      let r : Result ℕ Refusal = outcome_of (aimed aim (changes_in cs) settled N budget) in
+      let room = answers (leb (length us) 256) (checked_of aim settled budget cs links lines) told some
+      (sym (ap (reply_of aim) (agreed_laid S)) ∙ e) in
+      let both = answers (is_network cs links lines) r told some room.1 in
+      let parts = and_parts (leb (length cs) 256 && leb (length links) 256 && leb (length lines) 64) (network_ok N) both.0 in
       record {
         network = parts.1;
-        verdict = ap (λ (cs : List Undone). (outcome_of (aimed aim cs settled N budget)).answer)
-            (sym (agreed_back S v (leb-true _ _ first))) ∙ both.1;
+        verdict = ap (λ (us : List Undone). outcome_of (aimed aim us settled N budget))
+            (sym (agreed_back S v (leb-true _ _ room.0))) ∙ both.1;
       }
 
-  -- answer 0: at every moment of every run within demand 3's premises no packet leaves its client's links
-  pub yes_at_rest : answer_of Resting ≡ 0 → Always S settled (Isolated N)
-  yes_at_rest e =
-      let s = said Resting 0 (omega arith) e in
-      let y = yes_fine (aimed Resting (agreed S) settled N budget) s.verdict in
-      always_isolated S v N s.network settled budget y.0 y.1
+  -- all is fine: at every moment of every run within demand 3's premises no packet leaves its client's links
+  pub yes_at_rest : (left : ℕ) → reply Resting ≡ Ok left → Always S settled (Isolated N)
+  yes_at_rest left e =
+      let s = said Resting (Ok left) (λ z. cc) e in
+      always_isolated S v N s.network settled budget left (yes_fine _ left s.verdict)
 
   -- nor one under way, over any number of switches
-  pub yes_under_way : answer_of Moving ≡ 0 → IsolatedInFlight S settled N
-  yes_under_way e =
-      let s = said Moving 0 (omega arith) e in
-      let y = yes_fine (aimed Moving (agreed S) settled N budget) s.verdict in
-      isolated_in_flight S v N s.network settled budget y.0 y.1
+  pub yes_under_way : (left : ℕ) → reply Moving ≡ Ok left → IsolatedInFlight S settled N
+  yes_under_way left e =
+      let s = said Moving (Ok left) (λ z. cc) e in
+      isolated_in_flight S v N s.network settled budget left (yes_fine _ left s.verdict)
 
   -- and none is lost past its first switch
-  pub yes_none_lost : answer_of Losing ≡ 0 → Always S settled (Wanted (λ t. not_lost_past t.entry) N)
-  yes_none_lost e =
-      let s = said Losing 0 (omega arith) e in
-      let y = yes_fine (aimed Losing (agreed S) settled N budget) s.verdict in
-      always_wanted S v N s.network (λ t. not_lost_past t.entry) settled budget y.0 y.1
+  pub yes_none_lost : (left : ℕ) → reply Losing ≡ Ok left → Always S settled (Wanted (λ t. not_lost_past t.entry) N)
+  yes_none_lost left e =
+      let s = said Losing (Ok left) (λ z. cc) e in
+      always_wanted S v N s.network (λ t. not_lost_past t.entry) settled budget left (yes_fine _ left s.verdict)
 
-  -- answer 1: a run within the premises in which a packet crosses, where at most 64 changes are agreed
-  pub no_at_rest : FewAgreed S → settled ≤ length (agreed S) → answer_of Resting ≡ 1 → Crosses S settled N
-  no_at_rest few made e =
-      let s = said Resting 1 (omega arith) e in
-      let y = no_fails (aimed Resting (agreed S) settled N budget) s.verdict in
+  -- a packet fails: a run within the premises in which a packet crosses, where at most 64 changes are agreed
+  pub no_at_rest : FewAgreed S → settled ≤ length (agreed S) → (packet : FailingPacket)
+      → reply Resting ≡ Err (Fails packet) → Crosses S settled N
+  no_at_rest few made packet e =
+      let s = said Resting (Err (Fails packet)) (λ z. cc) e in
+      let y = no_fails (aimed Resting (agreed S) settled N budget) packet s.verdict in
       no_reached S v few settled made N s.network budget y.0 y.1

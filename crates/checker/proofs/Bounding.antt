@@ -14,12 +14,13 @@ use Rattle.lists.specs.Kinds.{among, is_among}
 use Rattle.lists.proofs.Stores.{rest}
 use Rattle.flow.specs.Rules.{block_size}
 use Rattle.isolation.specs.Check.{Verdict, fine, and_then, in_turn, bounds, singly}
-use Rattle.checker.specs.Layout.{listed_from, change_at, bounds_for}
+use Rattle.checker.specs.Layout.{listed_from, no_change, change_at, bounds_for}
+use Rattle.checker.specs.declared.AgreedChange.{AgreedChange}
 use Rattle.checker.specs.declared.Quest.{Quest}
 
-module _ (flat : List ℕ) where
+module _ (laid : List AgreedChange) where
   -- how many they are
-  pub bounds-length : (i n : ℕ) → length (bounds (listed_from (change_at flat) i n)) ≡ 2 * n
+  pub bounds-length : (i n : ℕ) → length (bounds (listed_from (change_at laid) i n)) ≡ 2 * n
   unfolding bounds listed_from
   bounds-length i zero = refl
   bounds-length i (suc n) =
@@ -28,52 +29,52 @@ module _ (flat : List ℕ) where
 
   -- where the k-th begins, and where it ends
   pub bounds_begin : (i n k : ℕ) → k < n
-      → get_or (bounds (listed_from (change_at flat) i n)) (2 * k) 0 ≡ get_or flat ((i + k) * 6 + 3) 0
+      → get_or (bounds (listed_from (change_at laid) i n)) (2 * k) 0 ≡ (get_or laid (i + k) no_change).prefix
   unfolding bounds listed_from
   bounds_begin i zero k l = absurd (omega arith)
-  bounds_begin i (suc n) zero l = let e : i * 6 + 3 ≡ (i + 0) * 6 + 3 = omega arith in ap (λ (k : ℕ). get_or flat k 0) e
+  bounds_begin i (suc n) zero l = let e : i ≡ i + 0 = omega arith in ap (λ (k : ℕ). (get_or laid k no_change).prefix) e
   bounds_begin i (suc n) (suc k) l =
       let e : 2 * suc k ≡ suc (suc (2 * k)) = omega arith in
       let z : suc i + k ≡ i + suc k = omega arith in
       rw e (bounds_begin (suc i) n k (omega arith) ∙ rw z)
 
   pub bounds_end : (i n k : ℕ) → k < n
-      → get_or (bounds (listed_from (change_at flat) i n)) (suc (2 * k)) 0
-      ≡ get_or flat ((i + k) * 6 + 3) 0 + block_size (get_or flat ((i + k) * 6 + 4) 0)
+      → get_or (bounds (listed_from (change_at laid) i n)) (suc (2 * k)) 0
+      ≡ (get_or laid (i + k) no_change).prefix + block_size ((get_or laid (i + k) no_change).length)
   unfolding bounds listed_from
   bounds_end i zero k l = absurd (omega arith)
   bounds_end i (suc n) zero l = let e : i ≡ i + 0 = omega arith in
-      ap (λ (k : ℕ). get_or flat (k * 6 + 3) 0 + block_size (get_or flat (k * 6 + 4) 0)) e
+      ap (λ (k : ℕ). (get_or laid k no_change).prefix + block_size ((get_or laid k no_change).length)) e
   bounds_end i (suc n) (suc k) l =
       let e : 2 * suc k ≡ suc (suc (2 * k)) = omega arith in
       let z : suc i + k ≡ i + suc k = omega arith in
       rw e (bounds_end (suc i) n k (omega arith) ∙ rw z)
 
   -- the bounds of a question: the client's prefix first, then those of the changes, at odd places where one begins
-  pub asked_length : (q : Quest) → length (bounds_for flat q) ≡ suc (2 * q.count)
-  asked_length q = ap suc (bounds-length 0 q.count)
+  pub asked_length : (q : Quest) → length (bounds_for laid q) ≡ suc (2 * length laid)
+  asked_length q = ap suc (bounds-length 0 (length laid))
 
-  pub asked_begin : (q : Quest) (i : ℕ) → i % 2 ≡ 1 → i ≤ 2 * q.count
-      → get_or (bounds_for flat q) i 0 ≡ get_or flat ((i - 1) / 2 * 6 + 3) 0
+  pub asked_begin : (q : Quest) (i : ℕ) → i % 2 ≡ 1 → i ≤ 2 * length laid
+      → get_or (bounds_for laid q) i 0 ≡ (get_or laid ((i - 1) / 2) no_change).prefix
   asked_begin q i odd h =
       let k = (i - 1) / 2 in
       let e : i ≡ suc (2 * k) = omega arith in
       let z : 0 + k ≡ k = omega arith in
-      ap (λ (j : ℕ). get_or (bounds_for flat q) j 0) e
-      ∙ bounds_begin 0 q.count k (omega arith) ∙ ap (λ (j : ℕ). get_or flat (j * 6 + 3) 0) z
+      ap (λ (j : ℕ). get_or (bounds_for laid q) j 0) e
+      ∙ bounds_begin 0 (length laid) k (omega arith) ∙ ap (λ (j : ℕ). (get_or laid j no_change).prefix) z
 
-  pub asked_end : (q : Quest) (i : ℕ) → (i ≡ 0 → ⊥) → (i % 2 ≡ 1 → ⊥) → i ≤ 2 * q.count
-      → get_or (bounds_for flat q) i 0
-      ≡ get_or flat ((i - 1) / 2 * 6 + 3) 0 + block_size (get_or flat ((i - 1) / 2 * 6 + 4) 0)
+  pub asked_end : (q : Quest) (i : ℕ) → (i ≡ 0 → ⊥) → (i % 2 ≡ 1 → ⊥) → i ≤ 2 * length laid
+      → get_or (bounds_for laid q) i 0
+      ≡ (get_or laid ((i - 1) / 2) no_change).prefix + block_size ((get_or laid ((i - 1) / 2) no_change).length)
   asked_end q i some even h =
       let k = (i - 1) / 2 in
       let p : 1 ≤ i = omega (arith, some) in
       let r : i % 2 ≡ 0 = omega (arith, even) in
       let e : i ≡ suc (suc (2 * k)) = omega arith in
       let z : 0 + k ≡ k = omega arith in
-      ap (λ (j : ℕ). get_or (bounds_for flat q) j 0) e
-      ∙ bounds_end 0 q.count k (omega arith)
-      ∙ ap (λ (j : ℕ). get_or flat (j * 6 + 3) 0 + block_size (get_or flat (j * 6 + 4) 0)) z
+      ap (λ (j : ℕ). get_or (bounds_for laid q) j 0) e
+      ∙ bounds_end 0 (length laid) k (omega arith)
+      ∙ ap (λ (j : ℕ). (get_or laid j no_change).prefix + block_size ((get_or laid j no_change).length)) z
 
 -- a number among those from a place on: it is the one there, or among those behind it
 module _ (l : List ℕ) (i a : ℕ) where

@@ -4,15 +4,13 @@ use mathlib.Core.Bool.{Bool, true, false}
 use mathlib.Core.List.{List, [], ◌∷◌}
 use Prim.Native.Nat.{ℕ, zero, suc, ◌+◌, ◌-◌, ◌<◌}
 use native.Mathlib.Omega.{arith}
-use lib.Dec.{eqb, leb}
+use lib.Dec.{leb}
 use lib.ListN.{length}
-use borrow.Author.Tests.{ne_eqb}
+use Rattle.std.specs.Prelude.{Ok, Err}
 use Rattle.answer.specs.Ask.{pick}
-use Rattle.answer.proofs.Bools.{by_bool}
 use Rattle.lists.specs.Counts.{passing}
 use Rattle.lists.specs.Kinds.{is_among}
-use Rattle.flow.specs.declared.Found.{Found}
-use Rattle.flow.specs.declared.Found.TheVariants.{Port, Nothing}
+use Rattle.std.specs.Prelude.{Option, Some, None}
 use Rattle.controller.specs.declared.Undone.{Undone}
 use Rattle.protocol.specs.Orders.{up_to}
 use Rattle.isolation.specs.Networks.{Link}
@@ -23,13 +21,17 @@ use Rattle.isolation.specs.Flights.{with_needs, flight_at, flight, flight_to}
 use Rattle.checker.specs.Layout.{change_at, changes_in, links_in, network_for, traffic_of}
 use Rattle.checker.specs.Marks.{rising_in, made_in}
 use Rattle.checker.specs.Trials.{step_trial, spent_trial, trial_at}
-use Rattle.checker.specs.Verdicts.{blamed, verdict_in}
+use Rattle.checker.specs.Verdicts.{blamed}
+use Rattle.checker.specs.Checked.{outcome_of}
+use Rattle.checker.specs.declared.AgreedChange.{AgreedChange}
+use Rattle.checker.specs.declared.PortLink.{PortLink}
 use Rattle.checker.specs.declared.Quest.{Quest}
-use Rattle.checker.specs.declared.Ruling.{Ruling}
+use Rattle.checker.specs.declared.Refusal.{Refusal}
 use Rattle.checker.specs.declared.Trial.{Trial}
 use Rattle.checker.specs.declared.Trial.TheVariants.{Passes, Spent, Crosses, GoesOn}
 use Rattle.checker.proofs.Listing.{listed-length}
 use Rattle.checker.proofs.Needing.{rising_made}
+use Rattle.checker.proofs.Outcomes.{goes_on, stops}
 
 -- the verdict that a trial leads to
 abbrev by_trial : Trial → Verdict → (ℕ → ℕ → Verdict) → Verdict
@@ -44,7 +46,7 @@ step_cases foreign b bad go = refl
 step_cases leaves b bad go = refl
 step_cases (goes_to s) b bad go = refl
 
-trial_cases : (able : Bool) (found : Found) (step : ℕ → Step) (budget : ℕ) (bad : Verdict) (go : ℕ → ℕ → Verdict)
+trial_cases : (able : Bool) (found : Option ℕ) (step : ℕ → Step) (budget : ℕ) (bad : Verdict) (go : ℕ → ℕ → Verdict)
     → pick able
     (spend budget (λ (b : ℕ). found_verdict found (fine b)
     (λ (p : ℕ). step_verdict (step p) bad (fine b) (λ (t : ℕ). go t b))))
@@ -52,8 +54,8 @@ trial_cases : (able : Bool) (found : Found) (step : ℕ → Step) (budget : ℕ)
     ≡ by_trial (pick able (spent_trial found step budget) (Passes budget)) bad go
 trial_cases false found step budget bad go = refl
 trial_cases true found step zero bad go = refl
-trial_cases true Nothing step (suc b) bad go = refl
-trial_cases true (Port p) step (suc b) bad go = step_cases (step p) b bad go
+trial_cases true None step (suc b) bad go = refl
+trial_cases true (Some p) step (suc b) bad go = step_cases (step p) b bad go
 
 -- the numbers below one, the highest first
 unfoldable pub below : ℕ → List ℕ
@@ -78,31 +80,31 @@ flight-first us covered c links blame (suc h) s known budget some =
     ap (λ (n : ℕ). in_turn (flight_at us covered c links blame
     (λ t later b. flight us covered c links blame n t later b) s known) (down_from (length us)) budget) z
 
-module _ (flat links : List ℕ) (q : Quest) (address : ℕ) where
+module _ (laid : List AgreedChange) (links : List PortLink) (q : Quest) (address : ℕ) where
   abbrev pub flight_of : ℕ → ℕ → List ℕ → ℕ → Verdict
   flight_of hops s known budget =
-      flight (changes_in flat q.count) (covering (changes_in flat q.count) address) q.client
-      (links_in links q.linked) (blamed q address) hops s known budget
+      flight (changes_in laid) (covering (changes_in laid) address) q.line.client
+      (links_in links) (blamed q address) hops s known budget
 
   -- the numbers below one are still to be tried, over so many switches
   abbrev pub flight_below : ℕ → ℕ → List ℕ → ℕ → ℕ → Verdict
   flight_below hops s known number budget =
-      in_turn (flight_at (changes_in flat q.count) (covering (changes_in flat q.count) address) q.client
-      (links_in links q.linked) (blamed q address) (λ t later b. flight_of (hops - 1) t later b) s known)
+      in_turn (flight_at (changes_in laid) (covering (changes_in laid) address) q.line.client
+      (links_in links) (blamed q address) (λ t later b. flight_of (hops - 1) t later b) s known)
       (below number) budget
 
   module _ (hops s : ℕ) (known : List ℕ) where
     pub flight-start : (budget : ℕ) → (hops ≡ 0 → ⊥)
-        → flight_of hops s known budget ≡ flight_below hops s known (q.count + 1) budget
+        → flight_of hops s known budget ≡ flight_below hops s known (length laid + 1) budget
     flight-start budget some =
-        let us = changes_in flat q.count in
+        let us = changes_in laid in
         let covered = covering us address in
-        let to = links_in links q.linked in
-        let z : suc q.count ≡ q.count + 1 = omega arith in
-        flight-first us covered q.client to (blamed q address) hops s known budget some
-        ∙ ap (λ (l : List ℕ). in_turn (flight_at us covered q.client to (blamed q address)
+        let to = links_in links in
+        let z : suc (length laid) ≡ length laid + 1 = omega arith in
+        flight-first us covered q.line.client to (blamed q address) hops s known budget some
+        ∙ ap (λ (l : List ℕ). in_turn (flight_at us covered q.line.client to (blamed q address)
         (λ t later b. flight_of (hops - 1) t later b) s known) l budget)
-        (ap down_from (listed-length (change_at flat) 0 q.count) ∙ below_all q.count ∙ ap below z)
+        (ap down_from (listed-length (change_at laid) 0 (length laid)) ∙ below_all (length laid) ∙ ap below z)
 
     pub flight_end : (number budget : ℕ) → number ≡ 0 → flight_below hops s known number budget ≡ fine budget
     unfolding in_turn below
@@ -110,25 +112,25 @@ module _ (flat links : List ℕ) (q : Quest) (address : ℕ) where
 
     -- the trial of a number decides its turn
     flight_turn : (number m left : ℕ) → number ≡ m + 1 → (trial told : Trial)
-        → trial ≡ trial_at (changes_in flat q.count) (covering (changes_in flat q.count) address) q.client
-        (links_in links q.linked) s known m left
+        → trial ≡ trial_at (changes_in laid) (covering (changes_in laid) address) q.line.client
+        (links_in links) s known m left
         → trial ≡ told
         → flight_below hops s known number left
         ≡ and_then (by_trial told
-        (fails (blamed q address (downward (changes_in flat q.count) (covering (changes_in flat q.count) address)
-        (known_at (changes_in flat q.count) known m))))
-        (λ t b. flight_of (hops - 1) t (known_at (changes_in flat q.count) known m) b))
+        (fails (blamed q address (downward (changes_in laid) (covering (changes_in laid) address)
+        (known_at (changes_in laid) known m))))
+        (λ t b. flight_of (hops - 1) t (known_at (changes_in laid) known m) b))
         (λ (b : ℕ). flight_below hops s known m b)
     unfolding in_turn below
     flight_turn number m left e trial told t o =
-        let us = changes_in flat q.count in
+        let us = changes_in laid in
         let covered = covering us address in
         let bad = fails (blamed q address (downward us covered (known_at us known m))) in
         let next : suc m ≡ number = omega arith in
         ap (λ (n : ℕ). flight_below hops s known n left) (sym next)
         ∙ ap (λ (v : Verdict). and_then v (λ (b : ℕ). flight_below hops s known m b))
         (trial_cases (can_be_last us covered s known m) (finds_after us covered (up_to m) s)
-        (λ (p : ℕ). over q.client (links_in links q.linked) s p) left bad
+        (λ (p : ℕ). over q.line.client (links_in links) s p) left bad
         (λ t b. flight_of (hops - 1) t (known_at us known m) b)
         ∙ ap (λ (r : Trial). by_trial r bad (λ t b. flight_of (hops - 1) t (known_at us known m) b)) (sym t ∙ o))
 
@@ -137,38 +139,29 @@ module _ (flat links : List ℕ) (q : Quest) (address : ℕ) where
   flight_none hops s known budget e = ap (λ (n : ℕ). flight_of n s known budget) e
 
   -- the numbers blamed are those that the marks make
-  downward-made : (marks : List Bool) (later : List ℕ) → rising_in marks q.count ≡ later
-      → downward (changes_in flat q.count) (covering (changes_in flat q.count) address) later
-      ≡ made_in marks q.count
+  downward-made : (marks : List Bool) (later : List ℕ) → rising_in marks (length laid) ≡ later
+      → downward (changes_in laid) (covering (changes_in laid) address) later
+      ≡ made_in marks (length laid)
   downward-made marks later e =
-      (λ i. passing (λ j. is_among j (sym e i)) (up_to (listed-length (change_at flat) 0 q.count i)))
-      ∙ rising_made marks q.count
+      (λ i. passing (λ j. is_among j (sym e i)) (up_to (listed-length (change_at laid) 0 (length laid) i)))
+      ∙ rising_made marks (length laid)
 
   -- a flight where the changes up to the settled number are known
   pub fly-known : (marks : List Bool) (budget : ℕ)
-      → rising_in marks q.count
-      ≡ with_needs (changes_in flat q.count) (λ k. leb k q.settled) q.count []
-      → flight_of 16 q.entry (rising_in marks q.count) budget
-      ≡ flight_to (changes_in flat q.count) q.settled 16 (network_for links q) (traffic_of q) address budget
+      → rising_in marks (length laid)
+      ≡ with_needs (changes_in laid) (λ k. leb k q.settled) (length laid) []
+      → flight_of 16 q.line.entry (rising_in marks (length laid)) budget
+      ≡ flight_to (changes_in laid) q.settled 16 (network_for links) (traffic_of q) address budget
   fly-known marks budget e =
-      ap (λ (known : List ℕ). flight_of 16 q.entry known budget)
-      (e ∙ ap (λ (n : ℕ). with_needs (changes_in flat q.count) (λ k. leb k q.settled) n [])
-      (sym (listed-length (change_at flat) 0 q.count)))
-
-  stops_at : (r : Ruling) (next : ℕ → Verdict) → (r.answer ≡ 0 → ⊥)
-      → and_then (verdict_in q address r) next ≡ verdict_in q address r
-  stops_at r next n =
-      rw (ne_eqb r.answer 0 n) (by_bool (eqb r.answer 1) (λ e. rw e) (λ e. rw e))
-
-  goes_past : (r : Ruling) (next : ℕ → Verdict) → r.answer ≡ 0
-      → and_then (verdict_in q address r) next ≡ next r.left
-  goes_past r next e = rw e
+      ap (λ (known : List ℕ). flight_of 16 q.line.entry known budget)
+      (e ∙ ap (λ (n : ℕ). with_needs (changes_in laid) (λ k. leb k q.settled) n [])
+      (sym (listed-length (change_at laid) 0 (length laid))))
 
   -- a turn of a whole flight, by what its trial is
   module _ (hops s : ℕ) (known : List ℕ) (whole : Verdict) (number left : ℕ)
       (so : whole ≡ flight_below hops s known number left) (some : 0 < number) (trial : Trial)
-      (tried : trial ≡ trial_at (changes_in flat q.count) (covering (changes_in flat q.count) address) q.client
-      (links_in links q.linked) s known (number - 1) left) where
+      (tried : trial ≡ trial_at (changes_in laid) (covering (changes_in laid) address) q.line.client
+      (links_in links) s known (number - 1) left) where
     pub turn_passes : (rest : ℕ) → trial ≡ Passes rest → whole ≡ flight_below hops s known (number - 1) rest
     turn_passes rest e =
         so ∙ flight_turn hops s known number (number - 1) left (omega arith) trial (Passes rest) tried e
@@ -177,36 +170,24 @@ module _ (flat links : List ℕ) (q : Quest) (address : ℕ) where
     turn_spent e = so ∙ flight_turn hops s known number (number - 1) left (omega arith) trial Spent tried e
 
     module _ (marks : List Bool)
-        (is : rising_in marks q.count ≡ known_at (changes_in flat q.count) known (number - 1)) where
-      pub turn_crosses : trial ≡ Crosses → whole ≡ fails (blamed q address (made_in marks q.count))
+        (is : rising_in marks (length laid) ≡ known_at (changes_in laid) known (number - 1)) where
+      pub turn_crosses : trial ≡ Crosses → whole ≡ fails (blamed q address (made_in marks (length laid)))
       turn_crosses e =
           so ∙ flight_turn hops s known number (number - 1) left (omega arith) trial Crosses tried e
           ∙ ap (λ (made : List ℕ). fails (blamed q address made)) (downward-made marks _ is)
 
-      module _ (next rest : ℕ) (goes : trial ≡ GoesOn next rest) (later : Ruling)
-          (ruled : verdict_in q address later ≡ flight_of (hops - 1) next (rising_in marks q.count) rest) where
-        turn_later : whole ≡ and_then (verdict_in q address later) (λ (b : ℕ). flight_below hops s known (number - 1) b)
+      module _ (next rest : ℕ) (goes : trial ≡ GoesOn next rest) where
+        abbrev later : Verdict
+        later = flight_of (hops - 1) next (rising_in marks (length laid)) rest
+
+        turn_later : whole ≡ and_then later (λ (b : ℕ). flight_below hops s known (number - 1) b)
         turn_later =
             so ∙ flight_turn hops s known number (number - 1) left (omega arith) trial (GoesOn next rest) tried goes
             ∙ ap (λ (v : Verdict). and_then v (λ (b : ℕ). flight_below hops s known (number - 1) b))
-            (sym (ruled ∙ ap (λ (l : List ℕ). flight_of (hops - 1) next l rest) is))
+            (ap (λ (l : List ℕ). flight_of (hops - 1) next l rest) (sym is))
 
-        pub turn_stops : (later.answer ≡ 0 → ⊥) → verdict_in q address later ≡ whole
-        turn_stops n = sym (turn_later ∙ stops_at later _ n)
+        pub turn_stops : (r : Refusal) → Err r ≡ outcome_of later → Err r ≡ outcome_of whole
+        turn_stops r ruled = stops later r _ ruled ∙ ap outcome_of (sym turn_later)
 
-        pub turn_goes_on : later.answer ≡ 0 → whole ≡ flight_below hops s known (number - 1) later.left
-        turn_goes_on e = turn_later ∙ goes_past later _ e
-
--- rulings as verdicts
-module _ (q : Quest) (address : ℕ) (r : Ruling) where
-  pub ruled_fine : (left : ℕ) (made : List Bool) → r ≡ record { answer = 0; left = left; made = made }
-      → verdict_in q address r ≡ fine left
-  ruled_fine left made e = ap (verdict_in q address) e
-
-  pub ruled_fails : (left : ℕ) (made : List Bool) → r ≡ record { answer = 1; left = left; made = made }
-      → verdict_in q address r ≡ fails (blamed q address (made_in made q.count))
-  ruled_fails left made e = ap (verdict_in q address) e
-
-  pub ruled_undecided : (left : ℕ) (made : List Bool) → r ≡ record { answer = 2; left = left; made = made }
-      → verdict_in q address r ≡ undecided
-  ruled_undecided left made e = ap (verdict_in q address) e
+        pub turn_goes_on : (b : ℕ) → Ok b ≡ outcome_of later → whole ≡ flight_below hops s known (number - 1) b
+        turn_goes_on b ruled = turn_later ∙ goes_on later b _ ruled

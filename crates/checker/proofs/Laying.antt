@@ -2,12 +2,13 @@
 -- plan; and one decision more, which takes a course laid out to the next one laid out. Assumes nothing.
 use mathlib.Core.Path.{◌≡◌, refl, sym, ap, ◌∙◌}
 use mathlib.Core.Bool.{true, false}
-use mathlib.Core.List.{List, [], ◌∷◌, ◌++◌, append_assoc, append-nil}
+use mathlib.Core.List.{List, [], ◌∷◌, ◌++◌, map, append_assoc, append-nil}
 use Prim.Native.Nat.{ℕ, zero, suc, ◌+◌, ◌*◌, ◌/◌, ◌≤◌, ◌<◌}
-use native.Mathlib.Numerals.{add-one, towards_suc}
+use native.Mathlib.Numerals.{add-one}
 use native.Mathlib.Omega.{arith}
-use lib.ListN.{length, get_or, take, drop, set, replicate, length-append, length-drop}
-use lib.Seq.{sets, length-take-le, get_or-drop}
+use lib.ListN.{length, get_or, take, drop, set, replicate, length-append, length-map}
+use lib.Seq.{length-take-le}
+use Rattle.std.proofs.lemmas.List.{map-append}
 use borrow.Author.Tests.{lt-ltb, le-ltb, le-leb, lt-leb}
 use Rattle.answer.specs.Ask.{reply}
 use Rattle.answer.proofs.Asked.{none_asked, refused, asked, reply_ap}
@@ -17,7 +18,6 @@ use Rattle.lists.specs.Bytes.{num, byte_at}
 use Rattle.lists.proofs.Numbers.{field_four}
 use Rattle.lists.proofs.Padding.{pad_none, pad_snoc}
 use Rattle.lists.proofs.Stores.{take_next}
-use Rattle.flow.specs.Rules.{port_of}
 use Rattle.playbook.specs.Plans.{changes_for}
 use Rattle.playbook.specs.Storing.{stored_ok}
 use Rattle.playbook.specs.declared.Change.{Change}
@@ -32,106 +32,79 @@ use Rattle.domain.specs.Settings.{Decision}
 use Rattle.domain.specs.Agreement.{beginning, onward, along, agreed_changes}
 use Rattle.domain.specs.Agreement as agreement
 use Rattle.domain.proofs.Courses.{along-append, along-book, agreed-few}
-use Rattle.checker.specs.Layout.{listed_from}
-use Rattle.checker.specs.Agreeing.{decision_at, decisions_in, numbers_of, flat_of, agreed_of}
-use Rattle.checker.specs.Agreeing.{put_at, laid_with, course_with}
+use Rattle.checker.specs.Layout.{listed_from, no_change}
+use Rattle.checker.specs.Agreeing.{decision_at, decisions_in, laid_as, agreed_of}
+use Rattle.checker.specs.Agreeing.{laid_from, put_at, laid_with, course_with}
+use Rattle.checker.specs.declared.AgreedChange.{AgreedChange}
 use Rattle.checker.specs.declared.Course.{Course}
 
--- a change put at a place: six numbers one after another, or nothing where there is no room
-pub put_in : (flat : List ℕ) (at first : ℕ) (c : Change) {port : ℕ} → at < 256 → port ≡ port_of c.rule.action
-    → let k = at * 6 in
-    set (set (set (set (set (set flat k first) (k + 1) c.flow) (k + 2) c.switch) (k + 3) c.rule.prefix)
-    (k + 4) c.rule.length) (k + 5) port
-    ≡ put_at flat at first c
-put_in flat at first c h e = rw (lt-ltb at 256 h, e) (simp towards_suc)
+-- a change put at a place, or nothing where there is no room
+pub put_in : (laid : List AgreedChange) (at first : ℕ) (c : Change) → at < 256
+    → set laid at (laid_from first c) ≡ put_at laid at first c
+put_in laid at first c h = rw (lt-ltb at 256 h)
 
-pub put_out : (flat : List ℕ) (at first : ℕ) (c : Change) → 256 ≤ at → flat ≡ put_at flat at first c
-put_out flat at first c h = rw (le-ltb at 256 h)
+pub put_out : (laid : List AgreedChange) (at first : ℕ) (c : Change) → 256 ≤ at → laid ≡ put_at laid at first c
+put_out laid at first c h = rw (le-ltb at 256 h)
 
 -- changes laid out: none, and one more at the end
-pub laid_none : (flat : List ℕ) (at first : ℕ) → laid_with flat at first [] ≡ flat
+pub laid_none : (laid : List AgreedChange) (at first : ℕ) → laid_with laid at first [] ≡ laid
 unfolding laid_with
-laid_none flat at first = refl
+laid_none laid at first = refl
 
-pub none_laid : (flat : List ℕ) (at first : ℕ) (cs : List Change) (n : ℕ) {out : List ℕ} → n ≡ 0 → out ≡ flat
-    → out ≡ laid_with flat at first (take n cs)
-none_laid flat at first cs n z e = rw z (e ∙ sym (laid_none flat at first))
-
-laid_snoc : (flat : List ℕ) (at first : ℕ) (cs : List Change) (c : Change)
-    → laid_with flat at first (cs ++ c ∷ []) ≡ put_at (laid_with flat at first cs) (at + length cs) first c
+laid_snoc : (laid : List AgreedChange) (at first : ℕ) (cs : List Change) (c : Change)
+    → laid_with laid at first (cs ++ c ∷ []) ≡ put_at (laid_with laid at first cs) (at + length cs) first c
 unfolding laid_with
-laid_snoc flat at first [] c = let e : at + 0 ≡ at = omega arith in rw e
-laid_snoc flat at first (d ∷ cs) c =
+laid_snoc laid at first [] c = let e : at + 0 ≡ at = omega arith in rw e
+laid_snoc laid at first (d ∷ cs) c =
     let e : at + suc (length cs) ≡ at + 1 + length cs = omega arith in
-    rw e (laid_snoc (put_at flat at first d) (at + 1) first cs c)
+    rw e (laid_snoc (put_at laid at first d) (at + 1) first cs c)
 
--- a turn of the loop that lays out the listed changes from a place on
-pub laid_turn : (flat : List ℕ) (at first : ℕ) (listed : List Change) (from i : ℕ) (z : Change) {out next : List ℕ}
-    → from + i < length listed → out ≡ laid_with flat at first (take i (drop from listed))
-    → next ≡ put_at out (at + i) first (get_or listed (from + i) z)
-    → next ≡ laid_with flat at first (take (i + 1) (drop from listed))
-laid_turn flat at first listed from i z h e f =
-    let cs = drop from listed in
-    let inside : i < length cs = simp length-drop (omega arith) in
-    let n : length (take i cs) ≡ i = length-take-le i cs (omega arith) in
+-- a turn of the loop that lays out listed changes
+pub laid_turn : (laid : List AgreedChange) (at first : ℕ) (listed : List Change) (i : ℕ) (z : Change)
+    → {out next : List AgreedChange} → i < length listed → out ≡ laid_with laid at first (take i listed)
+    → next ≡ put_at out (at + i) first (get_or listed i z)
+    → next ≡ laid_with laid at first (take (i + 1) listed)
+laid_turn laid at first listed i z h e f =
+    let n : length (take i listed) ≡ i = length-take-le i listed (omega arith) in
     f
-    ∙ sym (ap (laid_with flat at first) (take_next cs i z inside)
-    ∙ laid_snoc flat at first (take i cs) (get_or cs i z) ∙ rw (n, get_or-drop from listed i z, ← e))
+    ∙ sym (ap (laid_with laid at first) (take_next listed i z h)
+    ∙ laid_snoc laid at first (take i listed) (get_or listed i z) ∙ rw (n, ← e))
 
--- a run behind what an array holds, and what an array that is full does not hold
-pad_sets : (n : ℕ) (l vs : List ℕ) (k : ℕ) → k ≡ length l → sets (pad n 0 l) k vs ≡ pad n 0 (l ++ vs)
-pad_sets n l [] k e = rw append-nil
-pad_sets n l (v ∷ vs) k e =
-    ap (λ (m : List ℕ). sets m (suc k) vs) (ap (λ (j : ℕ). set (pad n 0 l) j v) e ∙ pad_snoc n 0 l v)
-    ∙ pad_sets n (l ++ v ∷ []) vs (suc k) (simp length-append (omega arith))
-    ∙ rw append_assoc
-
-pad_full : (n : ℕ) (l more : List ℕ) → n ≤ length l → pad n 0 l ≡ pad n 0 (l ++ more)
+-- what an array that is full does not hold
+pad_full : {A : Type 0} (n : ℕ) (z : A) (l more : List A) → n ≤ length l → pad n z l ≡ pad n z (l ++ more)
 unfolding pad
-pad_full zero l more h = refl
-pad_full (suc n) [] more h = absurd (omega arith)
-pad_full (suc n) (x ∷ l) more h = ap (λ (m : List ℕ). x ∷ m) (pad_full n l more (omega arith))
-
--- the numbers of changes, six of each
-pub flat_length : (us : List Undone) → length (flat_of us) ≡ length us * 6
-unfolding flat_of
-flat_length [] = refl
-flat_length (u ∷ us) = let e = flat_length us in omega arith
-
-flat_append : (us vs : List Undone) → flat_of (us ++ vs) ≡ flat_of us ++ flat_of vs
-unfolding flat_of
-flat_append [] vs = refl
-flat_append (u ∷ us) vs = ap (λ (l : List ℕ). numbers_of u ++ l) (flat_append us vs)
-
-flat_one : (u : Undone) → flat_of (u ∷ []) ≡ numbers_of u
-unfolding flat_of
-flat_one u = refl
+pad_full zero z l more h = refl
+pad_full (suc n) z [] more h = absurd (omega arith)
+pad_full (suc n) z (x ∷ l) more h = ap (λ (m : List _). x ∷ m) (pad_full n z l more (omega arith))
 
 -- one more, and the changes of a plan, also past the last place
+abbrev pub laid_array : List Undone → List AgreedChange
+laid_array us = pad 256 no_change (map laid_as us)
+
 put-behind : (us : List Undone) (first number : ℕ) (c : Change)
-    → put_at (pad 1536 0 (flat_of us)) (length us) first c ≡ pad 1536 0 (flat_of (us ++ numbered first number c ∷ []))
+    → put_at (laid_array us) (length us) first c ≡ laid_array (us ++ numbered first number c ∷ [])
 put-behind us first number c =
     let u = numbered first number c in
-    let more : flat_of (us ++ u ∷ []) ≡ flat_of us ++ numbers_of u =
-    flat_append us (u ∷ []) ∙ ap (λ (l : List ℕ). flat_of us ++ l) (flat_one u) in
-    let n = flat_length us in
+    let more : map laid_as (us ++ u ∷ []) ≡ map laid_as us ++ laid_as u ∷ [] = map-append laid_as us (u ∷ []) in
+    let n : length (map laid_as us) ≡ length us = length-map us laid_as in
     by_le 256 (length us)
-    (λ h. sym (put_out (pad 1536 0 (flat_of us)) (length us) first c h)
-    ∙ pad_full 1536 (flat_of us) (numbers_of u) (omega arith) ∙ ap (pad 1536 0) (sym more))
+    (λ h. sym (put_out (laid_array us) (length us) first c h)
+    ∙ pad_full 256 no_change (map laid_as us) (laid_as u ∷ []) (omega arith) ∙ ap (pad 256 no_change) (sym more))
     (λ h. rw (lt-ltb (length us) 256 h)
-    (pad_sets 1536 (flat_of us) (numbers_of u) (length us * 6) (sym n) ∙ ap (pad 1536 0) (sym more)))
+    (ap (λ (k : ℕ). set (laid_array us) k (laid_as u)) (sym n)
+    ∙ pad_snoc 256 no_change (map laid_as us) (laid_as u) ∙ ap (pad 256 no_change) (sym more)))
 
 laid_behind : (us : List Undone) (first number : ℕ) (cs : List Change)
-    → laid_with (pad 1536 0 (flat_of us)) (length us) first cs ≡ pad 1536 0 (flat_of (us ++ numbered_from first number cs))
+    → laid_with (laid_array us) (length us) first cs ≡ laid_array (us ++ numbered_from first number cs)
 unfolding laid_with numbered_from
-laid_behind us first number [] = ap (λ (l : List Undone). pad 1536 0 (flat_of l)) (sym (append-nil us))
+laid_behind us first number [] = ap laid_array (sym (append-nil us))
 laid_behind us first number (c ∷ cs) =
     let u = numbered first number c in
     let n : length us + 1 ≡ length (us ++ u ∷ []) = sym (length-append us (u ∷ [])) in
-    ap (λ (l : List ℕ). laid_with l (length us + 1) first cs) (put-behind us first number c)
-    ∙ ap (λ (k : ℕ). laid_with (pad 1536 0 (flat_of (us ++ u ∷ []))) k first cs) n
+    ap (λ (l : List AgreedChange). laid_with l (length us + 1) first cs) (put-behind us first number c)
+    ∙ ap (λ (k : ℕ). laid_with (laid_array (us ++ u ∷ [])) k first cs) n
     ∙ laid_behind (us ++ u ∷ []) first (number + 1) cs
-    ∙ ap (λ (l : List Undone). pad 1536 0 (flat_of l)) (append_assoc us (u ∷ []) (numbered_from first (number + 1) cs))
+    ∙ ap laid_array (append_assoc us (u ∷ []) (numbered_from first (number + 1) cs))
 
 -- one decision more, by its questions: of a switch that is not known, a serial that is not above the last, a plan for
 -- whose changes there are no numbers left, and any other, whose plan's changes are laid out
@@ -157,7 +130,7 @@ module _ (p : Playbook) (c : Course) (s serial cause : ℕ) where
           sym (asked _ _ 12 _ _ (lt-ltb s 16 known)
           ∙ asked _ _ 22 _ _ (lt-ltb _ _ above) ∙ refused _ _ 23 _ _ (lt-leb _ _ more))
 
-      pub course_goes : {changes : List ℕ} → c.count + q.count ≤ 4294967295
+      pub course_goes : {changes : List AgreedChange} → c.count + q.count ≤ 4294967295
           → changes ≡ laid_with c.changes c.count (c.count + 1) (take q.count (drop q.first p.changes))
           → Next (record { serials = set c.serials s serial; changes = changes; count = c.count + q.count })
       course_goes h e =
@@ -169,7 +142,7 @@ module _ (p : Playbook) (c : Course) (s serial cause : ℕ) where
 
 -- a course laid out
 abbrev laid_course : agreement.Course → Course
-laid_course a = record { serials = a.serials; changes = pad 1536 0 (flat_of a.changes); count = length a.changes }
+laid_course a = record { serials = a.serials; changes = laid_array a.changes; count = length a.changes }
 
 -- one decision more takes it to the next one laid out
 course_next : (a : agreement.Course) (d : Decision)
@@ -199,9 +172,9 @@ listed_snoc f i (suc n) =
     ap (λ (l : List Decision). f i ∷ l) (listed_snoc f (suc i) n) ∙ rw e
 
 module _ (p : Playbook) (bytes : List ℕ) where
-  pub course_begins : record { serials = replicate 16 0; changes = replicate 1536 0; count = 0 } ≡ course_at p bytes 0
-  unfolding listed_from flat_of
-  course_begins = λ i. record { serials = replicate 16 0; changes = sym (pad_none 1536 0) i; count = 0 }
+  pub course_begins : record { serials = replicate 16 0; changes = replicate 256 no_change; count = 0 } ≡ course_at p bytes 0
+  unfolding listed_from
+  course_begins = λ i. record { serials = replicate 16 0; changes = sym (pad_none 256 no_change) i; count = 0 }
 
   -- numbers fit four bytes
   pub course_few : (i : ℕ) → (course_at p bytes i).count ≤ 4294967295
@@ -237,7 +210,7 @@ module _ (p : Playbook) (bytes : List ℕ) where
 
   -- what is answered, of a playbook that its reader would not store, and of any other
   pub agreed_none : stored_ok p ≡ false
-      → record { answer = 20; changes = replicate 1536 0; count = 0 } ≡ agreed_of p (decisions_in bytes)
+      → record { answer = 20; changes = replicate 256 no_change; count = 0 } ≡ agreed_of p (decisions_in bytes)
   unfolding agreed_of
   agreed_none e = rw e
 

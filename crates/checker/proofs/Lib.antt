@@ -10,6 +10,7 @@ pub mod Laid
 pub mod Exploration
 pub mod Capping
 pub mod Bounding
+pub mod Outcomes
 pub mod Judging
 pub mod Replying
 pub mod Answered

@@ -6,7 +6,8 @@ use native.Mathlib.Omega.{arith}
 use lib.ListN.{length, get_or, drop}
 use Rattle.controller.specs.Changes.{empty_undone}
 use Rattle.domain.specs.Ideals.{change_of}
-use Rattle.checker.specs.Layout.{listed_from, change_at, changes_in}
+use Rattle.checker.specs.Layout.{listed_from, change_at, first_changes}
+use Rattle.checker.specs.declared.AgreedChange.{AgreedChange}
 
 module _ {A : Type 0} (f : ℕ → A) where
   pub listed-length : (i n : ℕ) → length (listed_from f i n) ≡ n
@@ -35,7 +36,8 @@ module _ {A : Type 0} (f : ℕ → A) where
       listed-drop (suc i) n j ∙ (λ k. listed_from f (e k) (z k))
 
 -- the change of a number stands at the place before it
-pub change_is : (flat : List ℕ) (n k : ℕ) → 1 ≤ k → k ≤ n → change_of (changes_in flat n) k ≡ change_at flat (k - 1)
-change_is flat n k low high =
+pub change_is : (laid : List AgreedChange) (n k : ℕ) → 1 ≤ k → k ≤ n
+    → change_of (first_changes laid n) k ≡ change_at laid (k - 1)
+change_is laid n k low high =
     let e : 0 + (k - 1) ≡ k - 1 = omega arith in
-    listed_at (change_at flat) 0 n (k - 1) empty_undone (omega arith) ∙ ap (change_at flat) e
+    listed_at (change_at laid) 0 n (k - 1) empty_undone (omega arith) ∙ ap (change_at laid) e

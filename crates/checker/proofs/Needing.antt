@@ -2,22 +2,24 @@
 -- Assumes nothing.
 use mathlib.Core.Path.{◌≡◌, refl, sym, ap, ◌∙◌}
 use mathlib.Core.Bool.{Bool, true, false, ◌&&◌, ◌||◌}
-use mathlib.Core.List.{List, [], ◌∷◌}
-use Prim.Native.Nat.{ℕ, zero, suc, ◌+◌, ◌-◌, ◌≤◌, ◌<◌}
+use mathlib.Core.List.{List, [], ◌∷◌, ◌++◌}
+use Prim.Native.Nat.{ℕ, zero, suc, ◌+◌, ◌-◌, ◌≤◌, ◌<◌, min}
 use native.Mathlib.Omega.{arith}
 use lib.Dec.{leb}
-use lib.ListN.{length, get_or, set, replicate}
-use lib.Seq.{get_or-set_same, get_or-set_other}
+use lib.ListN.{length, get_or, set, drop, replicate, length-replicate, get_or-append, get_or-replicate}
+use lib.Seq.{get_or-set_same, get_or-set_other, get_or-append_right}
+use Rattle.std.proofs.lemmas.List.{get_or-drop}
 use borrow.Author.Tests.{eq-eqb, ne_eqb, le-leb, lt-leb}
 use Rattle.answer.specs.Ask.{pick}
-use Rattle.answer.proofs.Bools.{by_bool, by_eq, or_left, or_right, or_join}
+use Rattle.answer.proofs.Bools.{by_bool, by_eq, by_le, or_left, or_right, or_join}
 use Rattle.lists.specs.Counts.{passing}
 use Rattle.lists.specs.Kinds.{among, is_among}
 use Rattle.controller.specs.Readiness.{waits_for}
 use Rattle.controller.specs.declared.Undone.{Undone}
 use Rattle.protocol.specs.Orders.{up_to}
 use Rattle.isolation.specs.Flights.{is_needed, with_needs, known_at}
-use Rattle.checker.specs.Layout.{change_at, changes_in}
+use Rattle.checker.specs.Layout.{change_at, first_changes, changes_in}
+use Rattle.checker.specs.declared.AgreedChange.{AgreedChange}
 use Rattle.checker.specs.Marks.{marked, made_in, rising_from, rising_in}
 use Rattle.checker.proofs.Listing.{listed-length, change_is}
 
@@ -100,51 +102,51 @@ needs_same us f g (suc n) found h =
     ∙ ap (λ (b : Bool). with_needs us g n (pick (b || is_needed us (suc n) found) (suc n ∷ found) found))
     (h (suc n) (omega arith) (omega arith))
 
-module _ (flat : List ℕ) (count : ℕ) where
+module _ (laid : List AgreedChange) (count : ℕ) where
   -- the change at place i is looked at, whether it waits for the one at place j
   needed_next : (marks : List Bool) (j i : ℕ) → j < count → i < count
-      → is_needed (changes_in flat count) (j + 1) (rising_past marks count i)
-      ≡ (get_or marks i false && waits_for (change_at flat i) (change_at flat j)
-      || is_needed (changes_in flat count) (j + 1) (rising_past marks count (i + 1)))
+      → is_needed (first_changes laid count) (j + 1) (rising_past marks count i)
+      ≡ (get_or marks i false && waits_for (change_at laid i) (change_at laid j)
+      || is_needed (first_changes laid count) (j + 1) (rising_past marks count (i + 1)))
   unfolding is_needed
   needed_next marks j i lj li =
-      let us = changes_in flat count in
+      let us = first_changes laid count in
       let zj : j + 1 - 1 ≡ j = omega arith in
       let zi : i + 1 - 1 ≡ i = omega arith in
-      let u = change_is flat count (i + 1) (omega arith) (omega arith) ∙ ap (change_at flat) zi in
-      let v = change_is flat count (j + 1) (omega arith) (omega arith) ∙ ap (change_at flat) zj in
+      let u = change_is laid count (i + 1) (omega arith) (omega arith) ∙ ap (change_at laid) zi in
+      let v = change_is laid count (j + 1) (omega arith) (omega arith) ∙ ap (change_at laid) zj in
       ap (is_needed us (j + 1)) (rising_next marks count i li)
       ∙ by_bool (get_or marks i false)
       (λ e. rw e (λ k. waits_for (u k) (v k) || is_needed us (j + 1) (rising_past marks count (i + 1))))
       (λ e. rw e)
 
   pub needed_here : (marks : List Bool) (j i : ℕ) → j < count → i < count → get_or marks i false ≡ true → (waits : Bool)
-      → waits ≡ waits_for (change_at flat i) (change_at flat j)
-      → is_needed (changes_in flat count) (j + 1) (rising_past marks count i)
-      ≡ (waits || is_needed (changes_in flat count) (j + 1) (rising_past marks count (i + 1)))
+      → waits ≡ waits_for (change_at laid i) (change_at laid j)
+      → is_needed (first_changes laid count) (j + 1) (rising_past marks count i)
+      ≡ (waits || is_needed (first_changes laid count) (j + 1) (rising_past marks count (i + 1)))
   needed_here marks j i lj li m waits w =
       needed_next marks j i lj li
-      ∙ (λ k. m k && sym w k || is_needed (changes_in flat count) (j + 1) (rising_past marks count (i + 1)))
+      ∙ (λ k. m k && sym w k || is_needed (first_changes laid count) (j + 1) (rising_past marks count (i + 1)))
 
   pub needed_unmarked : (marks : List Bool) (j i : ℕ) → j < count → i < count → get_or marks i false ≡ false
-      → is_needed (changes_in flat count) (j + 1) (rising_past marks count i)
-      ≡ is_needed (changes_in flat count) (j + 1) (rising_past marks count (i + 1))
+      → is_needed (first_changes laid count) (j + 1) (rising_past marks count i)
+      ≡ is_needed (first_changes laid count) (j + 1) (rising_past marks count (i + 1))
   needed_unmarked marks j i lj li m = needed_next marks j i lj li ∙ rw m
 
   pub needed_end : (marks : List Bool) (j i : ℕ) → count ≤ i
-      → is_needed (changes_in flat count) (j + 1) (rising_past marks count i) ≡ false
+      → is_needed (first_changes laid count) (j + 1) (rising_past marks count i) ≡ false
   unfolding is_needed
-  needed_end marks j i l = ap (is_needed (changes_in flat count) (j + 1)) (rising_end marks count i l)
+  needed_end marks j i l = ap (is_needed (first_changes laid count) (j + 1)) (rising_end marks count i l)
 
   -- place m is decided, those behind it stay
   needs_turn : (known : ℕ → Bool) (out next : List Bool) (j m : ℕ) (b : Bool) → j ≡ m + 1 → m < count
-      → (known j || is_needed (changes_in flat count) (m + 1) (rising_past out count (m + 1))) ≡ b
+      → (known j || is_needed (first_changes laid count) (m + 1) (rising_past out count (m + 1))) ≡ b
       → get_or next m false ≡ b → ((k : ℕ) → m < k → get_or next k false ≡ get_or out k false)
-      → with_needs (changes_in flat count) known j (rising_past out count j)
-      ≡ with_needs (changes_in flat count) known m (rising_past next count m)
+      → with_needs (first_changes laid count) known j (rising_past out count j)
+      ≡ with_needs (first_changes laid count) known m (rising_past next count m)
   unfolding with_needs
   needs_turn known out next j m b e l h g same =
-      let us = changes_in flat count in
+      let us = first_changes laid count in
       let s : j ≡ suc m = omega arith in
       let s' : suc m ≡ m + 1 = omega arith in
       let there = rising_next next count m l
@@ -159,30 +161,30 @@ module _ (flat : List ℕ) (count : ℕ) where
       ∙ ap (with_needs us known m) (sym there)
 
   needs_start : (known : ℕ → Bool) (out : List Bool)
-      → with_needs (changes_in flat count) known count []
-      ≡ with_needs (changes_in flat count) known count (rising_past out count count)
+      → with_needs (first_changes laid count) known count []
+      ≡ with_needs (first_changes laid count) known count (rising_past out count count)
   needs_start known out =
-      ap (with_needs (changes_in flat count) known count) (sym (rising_end out count count (omega arith)))
+      ap (with_needs (first_changes laid count) known count) (sym (rising_end out count count (omega arith)))
 
   needs_end : (known : ℕ → Bool) (out : List Bool) (j : ℕ) → j ≡ 0
-      → with_needs (changes_in flat count) known j (rising_past out count j) ≡ rising_in out count
+      → with_needs (first_changes laid count) known j (rising_past out count j) ≡ rising_in out count
   unfolding with_needs
   needs_end known out j e =
       let z : count - 0 ≡ count = omega arith in
-      (λ k. with_needs (changes_in flat count) known (e k) (rising_past out count (e k))) ∙ ap (rising_from out 0) z
+      (λ k. with_needs (first_changes laid count) known (e k) (rising_past out count (e k))) ∙ ap (rising_from out 0) z
 
   -- from the last place down: those from j on are decided, and the marks below are still the first ones
   abbrev pub Decided : List Bool → List Bool → ℕ → Type 0
   Decided marks out j =
-      (with_needs (changes_in flat count) (marked marks) count []
-      ≡ with_needs (changes_in flat count) (marked marks) j (rising_past out count j))
+      (with_needs (first_changes laid count) (marked marks) count []
+      ≡ with_needs (first_changes laid count) (marked marks) j (rising_past out count j))
       × ((i : ℕ) → i < j → get_or out i false ≡ get_or marks i false)
 
   pub decided_none : (marks : List Bool) → Decided marks marks count
   decided_none marks = (needs_start (marked marks) marks, λ i l. refl)
 
   pub decided_all : (marks out : List Bool) (j : ℕ) → Decided marks out j → j ≡ 0
-      → rising_in out count ≡ with_needs (changes_in flat count) (marked marks) count []
+      → rising_in out count ≡ with_needs (first_changes laid count) (marked marks) count []
   decided_all marks out j d e = sym (d.0 ∙ needs_end (marked marks) out j e)
 
   module _ (marks out : List Bool) (j : ℕ) (d : Decided marks out j) (some : 0 < j) (within : j ≤ count) where
@@ -195,7 +197,7 @@ module _ (flat : List ℕ) (count : ℕ) where
     )
 
     module _ (needed : Bool)
-        (is : needed ≡ is_needed (changes_in flat count) (j - 1 + 1) (rising_past out count (j - 1 + 1))) where
+        (is : needed ≡ is_needed (first_changes laid count) (j - 1 + 1) (rising_past out count (j - 1 + 1))) where
       pub decided_needed : j ≤ length out → needed ≡ true → Decided marks (set out (j - 1) true) (j - 1)
       decided_needed fits y = (
         d.0 ∙ needs_turn (marked marks) out (set out (j - 1) true) j (j - 1) true (omega arith) (omega arith)
@@ -224,56 +226,42 @@ module _ (flat : List ℕ) (count : ℕ) where
       ∙ sym (among_rising marks count j low high)))
 
   pub known_with : (marks : List Bool) (number : ℕ) → 1 ≤ number → number ≤ count → count ≤ length marks
-      → with_needs (changes_in flat count) (marked (set marks (number - 1) true)) count []
-      ≡ known_at (changes_in flat count) (rising_in marks count) number
+      → with_needs (first_changes laid count) (marked (set marks (number - 1) true)) count []
+      ≡ known_at (first_changes laid count) (rising_in marks count) number
   known_with marks zero one within fits = absurd (omega arith)
   known_with marks (suc k) one within fits =
-      needs_same (changes_in flat count) (marked (set marks (suc k - 1) true))
+      needs_same (first_changes laid count) (marked (set marks (suc k - 1) true))
       (λ j. is_among j (suc k ∷ rising_in marks count)) count []
       (λ j low high. marked_also marks (suc k) j (omega arith) (omega arith) low high)
-      ∙ ap (λ (n : ℕ). with_needs (changes_in flat count) (λ j. is_among j (suc k ∷ rising_in marks count)) n [])
-      (sym (listed-length (change_at flat) 0 count))
+      ∙ ap (λ (n : ℕ). with_needs (first_changes laid count) (λ j. is_among j (suc k ∷ rising_in marks count)) n [])
+      (sym (listed-length (change_at laid) 0 count))
 
   pub known_none : (marks : List Bool) (number : ℕ) → number ≡ 0
-      → rising_in marks count ≡ known_at (changes_in flat count) (rising_in marks count) number
-  known_none marks number e = sym (ap (known_at (changes_in flat count) (rising_in marks count)) e)
+      → rising_in marks count ≡ known_at (first_changes laid count) (rising_in marks count) number
+  known_none marks number e = sym (ap (known_at (first_changes laid count) (rising_in marks count)) e)
 
--- the places below one are marked where their numbers are settled, and no others
-abbrev pub SettledBelow : ℕ → List Bool → ℕ → Type 0
-SettledBelow settled marks i =
-    ((k : ℕ) → k < i → get_or marks k false ≡ leb (k + 1) settled) × ((k : ℕ) → i ≤ k → get_or marks k false ≡ false)
-
+-- the first places are marked, as many as there are settled numbers
 unmarked : (n k : ℕ) → get_or (replicate n false) k false ≡ false
 unmarked zero k = refl
 unmarked (suc n) zero = refl
 unmarked (suc n) (suc k) = unmarked n k
 
-pub settled_none : (settled n : ℕ) → SettledBelow settled (replicate n false) 0
-settled_none settled n = (λ k l. absurd (omega arith), λ k l. unmarked n k)
+module _ (laid : List AgreedChange) (settled m : ℕ) (is : m ≡ min settled (length laid)) (filled : List Bool)
+    (all : filled ≡ replicate m true) where
+  abbrev marks : List Bool
+  marks = filled ++ drop m (replicate 256 false)
 
-module _ (settled : ℕ) (marks : List Bool) (i : ℕ) (s : SettledBelow settled marks i) where
-  pub settled_next : i < length marks → i < settled → SettledBelow settled (set marks i true) (i + 1)
-  settled_next fits l = (
-    λ k m. by_eq k i
-        (λ e.
-        rw e (get_or-set_same marks i true false fits ∙ sym (le-leb (i + 1) settled (omega arith))))
-        (λ n. get_or-set_other marks i k true false n ∙ s.0 k (omega arith)),
-    λ k m. get_or-set_other marks i k true false (λ e. omega arith) ∙ s.1 k (omega arith),
-  )
+  settled_one : (k : ℕ) → 1 ≤ k → k ≤ length laid → marked marks k ≡ leb k settled
+  settled_one k low high =
+      let long : length filled ≡ m = ap length all ∙ length-replicate m true in
+      by_le k settled
+      (λ h. get_or-append filled (drop m (replicate 256 false)) false (k - 1) (omega arith)
+      ∙ ap (λ (l : List Bool). get_or l (k - 1) false) all
+      ∙ get_or-replicate m (k - 1) true false (omega arith) ∙ sym (le-leb k settled h))
+      (λ h. get_or-append_right filled (drop m (replicate 256 false)) (k - 1) false (omega arith)
+      ∙ get_or-drop m (replicate 256 false) (k - 1 - length filled) false ∙ unmarked 256 (m + (k - 1 - length filled))
+      ∙ sym (lt-leb k settled h))
 
-  pub settled_past : settled ≤ i → SettledBelow settled marks (i + 1)
-  settled_past l = (
-    λ k m. by_eq k i
-        (λ e. rw e (s.1 i (omega arith) ∙ sym (lt-leb (i + 1) settled (omega arith))))
-        (λ n. s.0 k (omega arith)),
-    λ k m. s.1 k (omega arith),
-  )
-
-  pub settled_all : (flat : List ℕ) (count : ℕ) → count ≤ i
-      → with_needs (changes_in flat count) (marked marks) count []
-      ≡ with_needs (changes_in flat count) (λ k. leb k settled) count []
-  settled_all flat count l =
-      needs_same (changes_in flat count) (marked marks) (λ k. leb k settled) count []
-      (λ k low high.
-      let z : k - 1 + 1 ≡ k = omega arith in
-      s.0 (k - 1) (omega arith) ∙ ap (λ (n : ℕ). leb n settled) z)
+  pub settled_all : with_needs (changes_in laid) (marked marks) (length laid) []
+      ≡ with_needs (changes_in laid) (λ k. leb k settled) (length laid) []
+  settled_all = needs_same (changes_in laid) (marked marks) (λ k. leb k settled) (length laid) [] settled_one

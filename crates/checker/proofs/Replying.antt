@@ -1,87 +1,78 @@
--- Lines of traffic in turn, the reply that a ruling is, and which numbers are a network. Assumes nothing.
+-- Lines of traffic in turn, the marks that a reply tells, and which lines are a network. Assumes nothing.
 use mathlib.Core.Path.{◌≡◌, refl, sym, ap, ◌∙◌}
 use mathlib.Core.Bool.{Bool, true, false, ◌&&◌}
-use mathlib.Core.List.{List, [], ◌∷◌}
-use Prim.Native.Nat.{ℕ, zero, suc, ◌+◌, ◌*◌, ◌-◌, ◌≤◌, ◌<◌}
+use mathlib.Core.List.{List, [], ◌∷◌, ◌++◌}
+use Prim.Native.Nat.{ℕ, zero, suc, ◌+◌, ◌-◌, ◌≤◌, ◌<◌}
 use native.Mathlib.Omega.{arith}
-use lib.Dec.{ltb, eqb}
-use lib.ListN.{length, take, drop, get_or, length-take, drop_of_length-le, get_or-eq_default}
-use lib.Seq.{ext_get_or, get_or-take}
-use borrow.Author.Tests.{ne_eqb, le-leb, lt-leb}
+use lib.Dec.{ltb}
+use lib.ListN.{length, take, drop, get_or, replicate, length-take, drop_of_length-le, get_or-eq_default}
+use lib.Seq.{ext_get_or, get_or-take, length-take-le}
+use borrow.Author.Tests.{le-leb}
+use Rattle.std.specs.Prelude.{Ok, Err}
+use Rattle.std.proofs.lemmas.List.{drop-replicate}
 use Rattle.answer.proofs.Bools.{by_bool, by_le}
 use Rattle.lists.specs.Arrays.{pad, every}
 use Rattle.lists.specs.Kinds.{is_among}
-use Rattle.lists.proofs.Padding.{pad-length}
+use Rattle.lists.proofs.Padding.{pad-length, pad_split}
 use Rattle.lists.proofs.Stores.{rest}
-use Rattle.isolation.specs.Networks.{Traffic, Network, link_ok, traffic_ok, network_ok}
+use Rattle.isolation.specs.Networks.{Traffic, link_ok, traffic_ok, network_ok}
 use Rattle.isolation.specs.Check.{Verdict, fine, and_then, in_turn}
-use Rattle.checker.specs.Layout.{listed_from, changes_in, link_at, line_at, traffic_from, traffic_of}
-use Rattle.checker.specs.Layout.{traffic_in, network_in}
+use Rattle.checker.specs.Layout.{listed_from, link_of, links_in, traffic_from, traffic_in, network_in, changes_in}
 use Rattle.checker.specs.Marks.{made_in}
-use Rattle.checker.specs.Verdicts.{located_in}
-use Rattle.checker.specs.Checked.{aimed, plainly, line_of, marks_of, outcome_of, told_of, is_network, checked_of}
+use Rattle.checker.specs.Checked.{aimed, marks_of, outcome_of, is_network, checked_of}
+use Rattle.checker.specs.declared.AgreedChange.{AgreedChange}
 use Rattle.checker.specs.declared.Aim.{Aim}
 use Rattle.checker.specs.declared.Line.{Line}
-use Rattle.checker.specs.declared.Located.{Located}
-use Rattle.checker.specs.declared.Outcome.{Outcome}
-use Rattle.checker.specs.declared.Quest.{Quest}
+use Rattle.checker.specs.declared.PortLink.{PortLink}
+use Rattle.checker.specs.declared.Refusal.{Refusal}
+use Rattle.checker.specs.declared.Refusal.TheVariants.{NoNetwork}
 use Rattle.checker.proofs.Listing.{listed-length, listed_at}
 use Rattle.checker.proofs.Marking.{among-made, made_above}
-use Rattle.checker.proofs.Judging.{goes_on, stops}
+use Rattle.checker.proofs.Outcomes.{goes_on, stops}
 
--- the line at hand and those after it
-module _ (flat : List ℕ) (n i : ℕ) where
-  pub lines_ahead : (line : Line) → i < n → line ≡ line_at flat i
-      → drop i (traffic_in flat n) ≡ traffic_from line ∷ drop (i + 1) (traffic_in flat n)
-  lines_ahead line h e =
-      let long = listed-length (λ (i : ℕ). traffic_from (line_at flat i)) 0 n in
-      let z : 0 + i ≡ i = omega arith in
-      rest (traffic_in flat n) i (traffic_from line) (omega arith)
-      ∙ ap (λ (t : Traffic). t ∷ drop (i + 1) (traffic_in flat n))
-      (listed_at (λ (i : ℕ). traffic_from (line_at flat i)) 0 n i (traffic_from line) h
-      ∙ ap (λ (i : ℕ). traffic_from (line_at flat i)) z ∙ ap traffic_from (sym e))
+-- lines from a place on, tested, and asked about in turn: the line at hand stops the loop or goes on
+module _ (lines : List Line) (i : ℕ) where
+  abbrev pub lines_from : List Traffic
+  lines_from = traffic_in (drop i lines)
 
-  pub lines_none : n ≤ i → drop i (traffic_in flat n) ≡ []
-  lines_none h =
-      let long = listed-length (λ (i : ℕ). traffic_from (line_at flat i)) 0 n in
-      drop_of_length-le (traffic_in flat n) {i = i} (omega arith)
+  lines_ahead : (z : Line) → i < length lines
+      → lines_from ≡ traffic_from (get_or lines i z) ∷ traffic_in (drop (i + 1) lines)
+  lines_ahead z h = ap traffic_in (rest lines i z h)
 
-  -- tested, and asked about in turn
-  pub lines_tested : (line : Line) → i < n → line ≡ line_at flat i
-      → every traffic_ok (drop i (traffic_in flat n))
-      ≡ (traffic_ok (traffic_from line) && every traffic_ok (drop (i + 1) (traffic_in flat n)))
+  lines_none : length lines ≤ i → lines_from ≡ []
+  lines_none h = ap traffic_in (drop_of_length-le lines {i = i} h)
+
+  pub lines_tested : (z : Line) → i < length lines
+      → every traffic_ok lines_from
+      ≡ (traffic_ok (traffic_from (get_or lines i z)) && every traffic_ok (traffic_in (drop (i + 1) lines)))
   unfolding every
-  lines_tested line h e = ap (every traffic_ok) (lines_ahead line h e)
+  lines_tested z h = ap (every traffic_ok) (lines_ahead z h)
 
-  pub lines_passed : n ≤ i → every traffic_ok (drop i (traffic_in flat n)) ≡ true
+  pub lines_passed : length lines ≤ i → every traffic_ok lines_from ≡ true
   unfolding every
   lines_passed h = ap (every traffic_ok) (lines_none h)
 
-  pub lines_turn : (one : Traffic → ℕ → Verdict) (line : Line) (b : ℕ) → i < n → line ≡ line_at flat i
-      → in_turn one (drop i (traffic_in flat n)) b
-      ≡ and_then (one (traffic_from line) b) (λ (b : ℕ). in_turn one (drop (i + 1) (traffic_in flat n)) b)
-  unfolding in_turn
-  lines_turn one line b h e = ap (λ (l : List Traffic). in_turn one l b) (lines_ahead line h e)
+  module _ (one : Traffic → ℕ → Verdict) (b : ℕ) where
+    lines_turn : (z : Line) → i < length lines
+        → in_turn one lines_from b
+        ≡ and_then (one (traffic_from (get_or lines i z)) b) (λ (b : ℕ). in_turn one (traffic_in (drop (i + 1) lines)) b)
+    unfolding in_turn
+    lines_turn z h = ap (λ (l : List Traffic). in_turn one l b) (lines_ahead z h)
 
-  pub lines_done : (one : Traffic → ℕ → Verdict) (b : ℕ) → n ≤ i → in_turn one (drop i (traffic_in flat n)) b ≡ fine b
-  unfolding in_turn
-  lines_done one b h = ap (λ (l : List Traffic). in_turn one l b) (lines_none h)
+    pub lines_done : length lines ≤ i → in_turn one lines_from b ≡ fine b
+    unfolding in_turn
+    lines_done h = ap (λ (l : List Traffic). in_turn one l b) (lines_none h)
 
--- a turn over the lines from a place on: the ruling on the one there stops the loop or goes on
-module _ (one : Traffic → ℕ → Verdict) (flat : List ℕ) (n i b : ℕ) (line : Line) (q : Quest) (found : Located)
-    (h : i < n) (is : line ≡ line_at flat i) (ruled : located_in q found ≡ one (traffic_from line) b) where
-  pub line_on : found.ruling.answer ≡ 0
-      → in_turn one (drop i (traffic_in flat n)) b ≡ in_turn one (drop (i + 1) (traffic_in flat n)) found.ruling.left
-  line_on e =
-      lines_turn flat n i one line b h is
-      ∙ goes_on q found.address found.ruling (one (traffic_from line) b)
-      (λ (b : ℕ). in_turn one (drop (i + 1) (traffic_in flat n)) b) ruled e
+    pub line_on : (z : Line) → i < length lines → (left : ℕ)
+        → Ok left ≡ outcome_of (one (traffic_from (get_or lines i z)) b)
+        → in_turn one lines_from b ≡ in_turn one (traffic_in (drop (i + 1) lines)) left
+    line_on z h left ruled =
+        lines_turn z h ∙ goes_on (one (traffic_from (get_or lines i z)) b) left _ ruled
 
-  pub line_bad : (found.ruling.answer ≡ 0 → ⊥) → in_turn one (drop i (traffic_in flat n)) b ≡ located_in q found
-  line_bad e =
-      lines_turn flat n i one line b h is
-      ∙ stops q found.address found.ruling (one (traffic_from line) b)
-      (λ (b : ℕ). in_turn one (drop (i + 1) (traffic_in flat n)) b) ruled e
+    pub line_bad : (z : Line) → i < length lines → (r : Refusal)
+        → Err r ≡ outcome_of (one (traffic_from (get_or lines i z)) b) → Err r ≡ outcome_of (in_turn one lines_from b)
+    line_bad z h r ruled =
+        stops (one (traffic_from (get_or lines i z)) b) r _ ruled ∙ ap outcome_of (sym (lines_turn z h))
 
 -- numbers made, as marks again
 pub pad_at : {A : Type 0} (n : ℕ) (z : A) (l : List A) (i : ℕ) → i < n → get_or (pad n z l) i z ≡ get_or l i z
@@ -113,59 +104,43 @@ marks_back marks count =
     let few : i < 256 = omega arith in
     listed_at is_made 0 256 i false few ∙ made_at marks count i ∙ sym (pad_at 256 false (take count marks) i few))
 
--- a ruling that is not fine
-pub told_is : (q : Quest) (found : Located) (line : Line) → (found.ruling.answer ≡ 0 → ⊥)
-    → line_of (traffic_of q) ≡ line → outcome_of (located_in q found) ≡ told_of found line q.count
-told_is q found line bad same =
-    rw (ne_eqb found.ruling.answer 0 bad)
-    (by_bool (eqb found.ruling.answer 1)
-    (λ e. rw e (failed same (marks_back found.ruling.made q.count)))
-    (λ e. rw e))
-  where
-    failed : {l m : Line} {a : ℕ} {s t : List Bool} → l ≡ m → s ≡ t
-        → ◌≡◌ {A = Outcome} (record { answer = 1; left = 0; line = l; address = a; made = s })
-        (record { answer = 1; left = 0; line = m; address = a; made = t })
-    failed {l} {m} {a} {s} {t} p q = λ i. record { answer = 1; left = 0; line = p i; address = a; made = q i }
+-- the first marks copied over an array of none
+pub marks_kept : (marks kept : List Bool) (count : ℕ) → count ≤ 256 → length marks ≡ 256 → kept ≡ take count marks
+    → kept ++ drop count (replicate 256 false) ≡ pad 256 false (take count marks)
+marks_kept marks kept count few long e =
+    let n : length (take count marks) ≡ count = length-take-le count marks (omega arith) in
+    rw (e, drop-replicate, pad_split 256 false (take count marks) (omega arith), n)
 
--- every link that can be laid out leads to a switch of the domain or outside
-pub link_ok_lem : (flat : List ℕ) (i : ℕ) → link_ok (link_at flat i) ≡ true
-link_ok_lem flat i = by_bool (ltb (get_or flat (i * 4 + 2) 0) 16) (λ e. rw (e, e)) (λ e. rw e)
+-- every link that can be lent leads to a switch of the domain or outside
+link_ok_lem : (l : PortLink) → link_ok (link_of l) ≡ true
+link_ok_lem l = by_bool (ltb l.far 16) (λ e. rw (e, e)) (λ e. rw e)
 
-pub links_ok : (flat : List ℕ) (i n : ℕ) → every link_ok (listed_from (link_at flat) i n) ≡ true
-unfolding every listed_from
-links_ok flat i zero = refl
-links_ok flat i (suc n) = rw (link_ok_lem flat i) (links_ok flat (suc i) n)
+links_ok : (links : List PortLink) → every link_ok (links_in links) ≡ true
+unfolding every
+links_ok [] = refl
+links_ok (l ∷ links) = rw (link_ok_lem l) (links_ok links)
 
-pub network_is : (links : List ℕ) (linked : ℕ) (traffic : List ℕ) (lines : ℕ)
-    → network_ok (network_in links linked traffic lines) ≡ every traffic_ok (traffic_in traffic lines)
-network_is links linked traffic lines = rw (links_ok links 0 linked)
+network_is : (links : List PortLink) (lines : List Line)
+    → network_ok (network_in links lines) ≡ every traffic_ok (traffic_in lines)
+network_is links lines = rw (links_ok links)
 
--- what has room, and is a network or not
-module _ (count linked lines : ℕ) (N : Network) where
-  pub many_changes : 256 < count → is_network count N linked lines ≡ false
-  many_changes h = rw (lt-leb count 256 h)
+-- what there is room for is a network exactly if all lines of traffic are formed
+pub has_room : (changes : List AgreedChange) (links : List PortLink) (lines : List Line)
+    → length changes ≤ 256 → length links ≤ 256 → length lines ≤ 64
+    → every traffic_ok (traffic_in lines) ≡ is_network changes links lines
+has_room changes links lines f g h =
+    sym (network_is links lines)
+    ∙ rw (le-leb (length changes) 256 f, le-leb (length links) 256 g, le-leb (length lines) 64 h)
 
-  pub many_links : count ≤ 256 → 256 < linked → is_network count N linked lines ≡ false
-  many_links g h = rw (le-leb count 256 g, lt-leb linked 256 h)
-
-  pub many_lines : count ≤ 256 → linked ≤ 256 → 64 < lines → is_network count N linked lines ≡ false
-  many_lines f g h = rw (le-leb count 256 f, le-leb linked 256 g, lt-leb lines 64 h)
-
-  pub has_room : count ≤ 256 → linked ≤ 256 → lines ≤ 64 → is_network count N linked lines ≡ network_ok N
-  has_room f g h = rw (le-leb count 256 f, le-leb linked 256 g, le-leb lines 64 h)
-
-module _ (aim : Aim) (settled budget : ℕ) (changes : List ℕ) (count : ℕ) (links : List ℕ) (linked : ℕ)
-    (traffic : List ℕ) (lines : ℕ) where
-  abbrev N : Network
-  N = network_in links linked traffic lines
-
-  pub checked_none : is_network count N linked lines ≡ false
-      → checked_of aim settled budget changes count links linked traffic lines ≡ plainly 3 0
+-- what is no network, and what is one
+module _ (aim : Aim) (settled budget : ℕ) (changes : List AgreedChange) (links : List PortLink) (lines : List Line) where
+  pub checked_none : is_network changes links lines ≡ false
+      → Err NoNetwork ≡ checked_of aim settled budget changes links lines
   unfolding checked_of
   checked_none e = rw e
 
-  pub checked_some : is_network count N linked lines ≡ true
-      → checked_of aim settled budget changes count links linked traffic lines
-      ≡ outcome_of (aimed aim (changes_in changes count) settled N budget)
+  pub checked_some : is_network changes links lines ≡ true
+      → outcome_of (aimed aim (changes_in changes) settled (network_in links lines) budget)
+      ≡ checked_of aim settled budget changes links lines
   unfolding checked_of
   checked_some e = rw e

@@ -1,10 +1,10 @@
 -- Marks as numbers made: the change at a place has the number after it. Assumes nothing.
 use Rattle.std.specs.Prelude.{ℕ, zero, suc, ◌-◌, Bool, false, ◌&&◌, List, [], ◌∷◌, get_or, replicate, set}
 use Rattle.answer.specs.Ask.{pick}
-use Rattle.flow.specs.Rules.{port_of}
 use Rattle.lists.specs.Counts.{passing}
 use Rattle.protocol.specs.Orders.{up_to}
-use Rattle.checker.specs.Layout.{change_at, on_at}
+use Rattle.checker.specs.Layout.{no_change, on_at}
+use Rattle.checker.specs.declared.AgreedChange.{AgreedChange}
 
 -- whether a number is marked
 abbrev pub marked : List Bool → ℕ → Bool
@@ -23,9 +23,9 @@ abbrev pub rising_in : List Bool → ℕ → List ℕ
 rising_in marks n = rising_from marks 0 n
 
 -- for inner functions: the ports of all lengths at a switch, once the marked ones of the first changes are made
-unfoldable pub ports_in : List ℕ → List Bool → ℕ → ℕ → ℕ → List ℕ
-ports_in flat marks s address zero = replicate 33 0
-ports_in flat marks s address (suc i) =
-    let before = ports_in flat marks s address i in
-    pick (get_or marks i false && on_at flat i s address)
-    (set before (change_at flat i).rule.length (port_of (change_at flat i).rule.action)) before
+unfoldable pub ports_in : List AgreedChange → List Bool → ℕ → ℕ → ℕ → List ℕ
+ports_in laid marks s address zero = replicate 33 0
+ports_in laid marks s address (suc i) =
+    let before = ports_in laid marks s address i in
+    pick (get_or marks i false && on_at laid i s address)
+    (set before (get_or laid i no_change).length (get_or laid i no_change).port) before

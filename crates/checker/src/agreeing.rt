@@ -1,83 +1,88 @@
 // The agreed changes of a playbook and a list of decisions, laid out as the check takes them.
-ghost use Rattle.std.specs.Prelude.{◌≡◌, true, ◌+◌, ◌*◌, ◌/◌, ◌≤◌, ◌<◌, length, take, drop};
+ghost use Rattle.std.specs.Prelude.{◌≡◌, true, ◌+◌, ◌*◌, ◌/◌, ◌≤◌, ◌<◌, length, MatchOption};
 ghost use Rattle.playbook.specs.Storing.{stored_ok};
-ghost use Rattle.checker.specs.Agreeing.{decision_at, decisions_in, put_at, laid_with, course_with, agreed_of};
+ghost use Rattle.checker.specs.Agreeing.{decision_at, decisions_in, laid_from, laid_with, course_with, agreed_of, in_use};
+ghost use Rattle.checker.specs.Layout.{most_changes, no_change};
 ghost use Rattle.answer.specs.Limits.{largest};
-ghost use Rattle.playbook.specs.Limits.{max_changes};
 
-use crate::{Agreed, CHANGED, Course, limits};
+use crate::{Agreed, AgreedChange, Course, limits};
 use answer::limits as bounds;
 use playbook::{Change, Playbook};
 
-// The numbers of a change at a place, of the decision with a first number; where there is no room, nothing changes.
-fn put_at(changes: [u32; CHANGED], at: usize, first: u32, change: Change) -> [u32; CHANGED]
-    ensures { result ≡ put_at changes at first change }
-{
-    let mut out = changes;
-    if at < limits::CHANGES {
+impl AgreedChange {
+    // What a place holds that no change is laid out in.
+    fn none() -> AgreedChange
+        ensures { result ≡ no_change }
+    {
+        AgreedChange {
+            first: 0,
+            flow: 0,
+            switch: 0,
+            prefix: 0,
+            length: 0,
+            port: 0,
+        }
+    }
+
+    // A change of a playbook, of the decision with a first number.
+    fn from_change(first: u32, change: &Change) -> AgreedChange
+        ensures { result ≡ laid_from first change.now }
+    {
         let rule = change.rule;
-        let action = rule.action;
-        let place = at * limits::CHANGE;
-        out[place] = first;
-        out[place + 1] = change.flow as u32;
-        out[place + 2] = change.switch as u32;
-        out[place + 3] = rule.prefix;
-        out[place + 4] = rule.length as u32;
-        out[place + 5] = flow::port_of(action) as u32;
+        AgreedChange {
+            first,
+            flow: change.flow as u32,
+            switch: change.switch as u32,
+            prefix: rule.prefix,
+            length: rule.length as u32,
+            port: flow::port_of(rule.action) as u32,
+        }
     }
-    out
 }
 
-// `count` listed changes from a place on, laid out behind those that there are.
-fn lay(
-    changes: [u32; CHANGED],
-    at: usize,
-    listed: [Change; playbook::limits::CHANGES],
-    from: usize,
-    count: usize,
-) -> [u32; CHANGED]
-    requires { (from + count ≤ max_changes) × (at + count ≤ largest) × (0 < count) }
-    ensures { result ≡ laid_with changes at (at + 1) (take count (drop from listed)) }
+// Listed changes laid out from a place on, as far as there is room.
+fn lay(laid: &mut [AgreedChange; limits::CHANGES], at: usize, listed: &[Change])
+    requires { at + length listed.now ≤ largest }
+    ensures { laid.new ≡ laid_with laid.old at (at + 1) listed.now }
 {
-    let first = (at + 1) as u32;
-    let mut out = changes;
-    let mut i: usize = 0;
-    while i < count {
-        let change = listed[from + i];
-        let next = put_at(out, at + i, first, change);
-        out = next;
-        i += 1;
+    for (i, change) in listed.iter().enumerate() {
+        if at + i < limits::CHANGES {
+            laid[at + i] = AgreedChange::from_change((at + 1) as u32, change);
+        }
     }
-    out
 }
 
-// One decision more: questions 12, 22 and 23; then its serial, and its plan's changes.
-fn advance(c: Course, p: Playbook, switch: u8, serial: u32, cause: u8) -> Course
-    requires { (stored_ok p ≡ true) × (c.count ≤ largest) }
-    ensures { result ≡ course_with p c switch serial cause }
-{
-    if bounds::SWITCHES <= switch {
-        return c;
+impl Course {
+    // One decision more: questions 12, 22 and 23; then its serial, and its plan's changes.
+    fn advance(&mut self, p: &Playbook, switch: u8, serial: u32, cause: u8)
+        requires stored { stored_ok p.now ≡ true }
+        requires few { self.old.count ≤ largest }
+        ensures { self.new ≡ course_with p.now self.old switch serial cause }
+    {
+        if bounds::SWITCHES <= switch || serial <= self.serials[switch as usize] {
+            return;
+        }
+        let plan = playbook::plan_of(*p, switch, cause);
+        if (bounds::LARGEST as usize) < self.count + plan.count {
+            return;
+        }
+        self.serials[switch as usize] = serial;
+        lay(
+            &mut self.changes,
+            self.count,
+            &p.changes[plan.first..plan.first + plan.count],
+        );
+        self.count += plan.count;
     }
-    let mut serials = c.serials;
-    if serial <= serials[switch as usize] {
-        return c;
-    }
-    let plan = playbook::plan_of(p, switch, cause);
-    if (bounds::LARGEST as usize) < c.count + plan.count {
-        return c;
-    }
-    serials[switch as usize] = serial;
-    let mut changes = c.changes;
-    if 0 < plan.count {
-        let listed = p.changes;
-        let next = lay(changes, c.count, listed, plan.first, plan.count);
-        changes = next;
-    }
-    Course {
-        serials: serials,
-        changes: changes,
-        count: c.count + plan.count,
+}
+
+impl Agreed {
+    // The changes that are laid out, where there is room for all of them.
+    pub fn laid(&self) -> Option<&[AgreedChange]>
+        ensures { MatchOption result (most_changes < self.now.count)
+            (λ laid. (self.now.count ≤ most_changes) × (laid.now ≡ in_use self.now)) }
+    {
+        self.changes.get(..self.count)
     }
 }
 
@@ -86,21 +91,20 @@ fn advance(c: Course, p: Playbook, switch: u8, serial: u32, cause: u8) -> Course
 pub fn agree(p: Playbook, decisions: &[u8]) -> Agreed
     ensures { result ≡ agreed_of p (decisions_in decisions.now) }
 {
+    let none = AgreedChange::none();
     if !playbook::stored(p) {
         return Agreed {
             answer: answer::LIMITS_BROKEN,
-            changes: [0; CHANGED],
+            changes: [none; limits::CHANGES],
             count: 0,
         };
     }
     let mut course = Course {
         serials: [0; bounds::OF_SWITCHES],
-        changes: [0; CHANGED],
+        changes: [none; limits::CHANGES],
         count: 0,
     };
-    let many = decisions.len() / limits::DECISION;
-    let mut i: usize = 0;
-    while i < many {
+    for i in 0..decisions.len() / limits::DECISION {
         let at = i * limits::DECISION;
         let serial = lists::u32_of(
             decisions[at + 1],
@@ -108,14 +112,11 @@ pub fn agree(p: Playbook, decisions: &[u8]) -> Agreed
             decisions[at + 3],
             decisions[at + 4],
         );
-        let next = advance(course, p, decisions[at], serial, decisions[at + 5]);
-        course = next;
-        i += 1;
+        course.advance(&p, decisions[at], serial, decisions[at + 5]);
     }
-    let changes = course.changes;
     Agreed {
         answer: answer::DONE,
-        changes: changes,
+        changes: course.changes,
         count: course.count,
     }
 }

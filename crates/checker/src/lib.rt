@@ -1,6 +1,6 @@
 // The check that no order of arrival takes a packet off its client's links (crate isolation, specs/Check.antt and
-// specs/Flights.antt), over numbers that the caller lends, and the agreed changes of a playbook and decisions laid out for
-// it. Every public function takes every input.
+// specs/Flights.antt), over changes, links and lines of traffic that the caller lends, and the agreed changes of a playbook
+// and decisions laid out for it. Every public function takes every input.
 #![tactic(auto)]
 
 mod agreeing;
@@ -10,20 +10,12 @@ mod classes;
 mod exploring;
 mod flights;
 pub mod limits;
-mod verdicts;
 mod ways;
 
 pub use agreeing::agree;
 pub use changes::awaits;
 pub use checks::check;
 pub use ways::{over_port, port_at};
-
-// The agreed changes, links and lines of traffic, as the caller lends them: each has the numbers that `limits` lists.
-pub const CHANGED: usize = limits::CHANGES * limits::CHANGE;
-
-pub const LINKED: usize = limits::LINKS * limits::LINK;
-
-pub const LINED: usize = limits::LINES * limits::LINE;
 
 // What is asked of every packet: that it keeps to its client's links, the tables standing still; that it is not lost past
 // its first switch; that it keeps to its client's links though tables change while it is under way.
@@ -32,6 +24,28 @@ pub enum Aim {
     Resting,
     Losing,
     Moving,
+}
+
+// An agreed change: the number of its decision's first change, its flow, its switch, and the rule that it sets there: a
+// prefix, its length and a port. Port 0 removes.
+#[derive(Clone, Copy)]
+pub struct AgreedChange {
+    pub first: u32,
+    pub flow: u32,
+    pub switch: u32,
+    pub prefix: u32,
+    pub length: u32,
+    pub port: u32,
+}
+
+// The link at a port of a switch: the switch behind it, where there is one of that number, and the client that it belongs
+// to, 0 for every client.
+#[derive(Clone, Copy)]
+pub struct PortLink {
+    pub switch: u32,
+    pub port: u32,
+    pub far: u32,
+    pub owner: u32,
 }
 
 // A line of traffic: a client, the prefix and length that its packets go to, and the switch at which they come in.
@@ -43,16 +57,20 @@ pub struct Line {
     pub entry: u32,
 }
 
-// What the check says: 0 where all is fine, with what is left of the budget; 1 with a line of traffic, an address and the
-// changes made by then, where a packet fails; 2 where the budget was too small; 3 where the numbers lent are no network.
-// What a reply does not have is 0.
+// A packet that fails: its line of traffic, the address that it goes to, and the changes made by then.
 #[derive(Clone, Copy)]
-pub struct Outcome {
-    pub answer: u8,
-    pub left: u64,
+pub struct FailingPacket {
     pub line: Line,
     pub address: u64,
     pub made: [bool; limits::CHANGES],
+}
+
+// Why the check does not say that all is fine: a packet fails, the budget was too small, or what was lent is no network.
+#[derive(Clone, Copy)]
+pub enum Refusal {
+    Fails(FailingPacket),
+    Undecided,
+    NoNetwork,
 }
 
 // The agreed changes laid out: the first `count` are in use. More than there is room for are counted, and not laid out.
@@ -60,7 +78,7 @@ pub struct Outcome {
 #[derive(Clone, Copy)]
 pub struct Agreed {
     pub answer: u8,
-    pub changes: [u32; CHANGED],
+    pub changes: [AgreedChange; limits::CHANGES],
     pub count: usize,
 }
 
@@ -68,37 +86,16 @@ pub struct Agreed {
 #[derive(Clone, Copy)]
 pub(crate) struct Course {
     pub(crate) serials: [u32; answer::limits::OF_SWITCHES],
-    pub(crate) changes: [u32; CHANGED],
+    pub(crate) changes: [AgreedChange; limits::CHANGES],
     pub(crate) count: usize,
 }
 
-// What is asked about one line of traffic: how many changes and links are in use, the number up to which all changes are
-// made, and whether packets that are lost count.
+// What is asked about one line of traffic, where all changes up to a number are made.
 #[derive(Clone, Copy)]
 pub(crate) struct Quest {
-    pub(crate) count: usize,
-    pub(crate) linked: usize,
+    pub(crate) aim: Aim,
     pub(crate) settled: usize,
-    pub(crate) losing: bool,
-    pub(crate) client: u32,
-    pub(crate) prefix: u32,
-    pub(crate) length: u32,
-    pub(crate) entry: u32,
-}
-
-// A verdict on one address: the answer, what is left of the budget, and the changes made where it fails.
-#[derive(Clone, Copy)]
-pub(crate) struct Ruling {
-    pub(crate) answer: u8,
-    pub(crate) left: u64,
-    pub(crate) made: [bool; limits::CHANGES],
-}
-
-// A verdict, and the address that it is about where a packet fails.
-#[derive(Clone, Copy)]
-pub(crate) struct Located {
-    pub(crate) ruling: Ruling,
-    pub(crate) address: u64,
+    pub(crate) line: Line,
 }
 
 // What a port does with a client's packet: it may not go there, it leaves the domain, or it goes to a switch.

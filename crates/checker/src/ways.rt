@@ -1,184 +1,139 @@
 // The way of a packet: what a switch finds for its address once some changes are made, and what a port does with it.
-ghost use Rattle.std.specs.Prelude.{◌≡◌, ℕ, ◌≤◌, get_or};
+ghost use Rattle.std.specs.Prelude.{◌≡◌, ℕ, ◌≤◌, length, get_or};
+ghost use Rattle.answer.specs.Limits.{switch_count};
 ghost use Rattle.isolation.specs.Traces as traces;
 ghost use Rattle.isolation.specs.Check.{longest_to, covering, finds_after};
-ghost use Rattle.checker.specs.Layout.{changes_in, links_in, found_of, behind_link, capped};
+ghost use Rattle.checker.specs.Layout.{most_changes, first_changes, changes_in, links_in};
+ghost use Rattle.checker.specs.Layout.{behind_link, found_of, capped};
 ghost use Rattle.checker.specs.Marks.{made_in, ports_in};
 ghost use Rattle.checker.specs.Verdicts.{step_of, end_of};
-ghost use Rattle.checker.specs.Layout.{most_changes, most_links};
-ghost use Rattle.answer.specs.Limits.{switch_count};
 
-use crate::changes::{field, is_on};
-use crate::{CHANGED, Ending, LINKED, Onward, Quest, limits};
+use crate::{AgreedChange, Ending, Line, Onward, PortLink, limits};
 
 // The port of each length that covers an address at a switch, 0 for none, once the marked ones of the first changes are
 // made.
 fn ports_of(
-    changes: &[u32; CHANGED],
+    changes: &[AgreedChange],
     marks: &[bool; limits::CHANGES],
     upto: usize,
     switch: u32,
     address: u64,
-) -> [u32; 33]
-    requires { upto ≤ most_changes }
+) -> [u32; limits::LENGTHS]
+    requires { (upto ≤ length changes.now) × (upto ≤ most_changes) }
     ensures { result ≡ ports_in changes.now marks.now switch address upto }
 {
-    let mut ports: [u32; 33] = [0; 33];
-    let mut i: usize = 0;
-    while i < upto {
-        if marks[i] {
-            if is_on(changes, i, switch, address) {
-                let length = field(changes, i, limits::LENGTH);
-                if length <= 32 {
-                    ports[length as usize] = field(changes, i, limits::PORT);
-                }
-            }
+    let mut ports = [0u32; limits::LENGTHS];
+    for i in 0..upto {
+        let change = changes[i];
+        if marks[i] && change.is_at(switch, address) && change.length <= 32 {
+            ports[change.length as usize] = change.port;
         }
-        i += 1;
     }
     ports
 }
 
-// The port of the greatest length that has one, or 0.
-fn longest(ports: [u32; 33]) -> u32
-    ensures { found_of result ≡ longest_to 32 (λ l. found_of (get_or ports l 0)) }
+// The port of the greatest length that has one.
+fn longest(ports: &[u32; limits::LENGTHS]) -> Option<u32>
+    ensures { result ≡ longest_to 32 (λ l. found_of (get_or ports.now l 0)) }
 {
-    let mut l: usize = 33;
-    while 0 < l {
-        l -= 1;
+    for l in (0..limits::LENGTHS).rev() {
         if ports[l] != 0 {
-            return ports[l];
+            return Some(ports[l]);
         }
     }
-    0
+    None
 }
 
-// The port that a switch finds for an address once the marked ones of the first changes are made, or 0.
+// The port that a switch finds for an address once the marked ones of the first changes are made.
 pub(crate) fn finds(
-    changes: &[u32; CHANGED],
+    changes: &[AgreedChange],
     marks: &[bool; limits::CHANGES],
     upto: usize,
     switch: u32,
     address: u64,
-) -> u32
-    requires { upto ≤ most_changes }
-    ensures { found_of result
-        ≡ finds_after (changes_in changes.now upto)
-        (covering (changes_in changes.now upto) address) (made_in marks.now upto) switch }
+) -> Option<u32>
+    requires { (upto ≤ length changes.now) × (upto ≤ most_changes) }
+    ensures { result
+        ≡ finds_after (first_changes changes.now upto)
+        (covering (first_changes changes.now upto) address) (made_in marks.now upto) switch }
 {
-    let ports = ports_of(changes, marks, upto, switch, address);
-    longest(ports)
+    longest(&ports_of(changes, marks, upto, switch, address))
+}
+
+impl PortLink {
+    // What it does with a client's packet: 0 owns what every client may use, and no switch past the last one lies behind.
+    fn behind(&self, client: u32) -> Onward
+        ensures { step_of result ≡ behind_link self.now client }
+    {
+        if self.owner != 0 && self.owner != client {
+            Onward::Foreign
+        } else if self.far < limits::SWITCHES {
+            Onward::GoesTo(self.far)
+        } else {
+            Onward::Leaves
+        }
+    }
 }
 
 // What a port of a switch does with a client's packet: the first link listed for it counts.
-pub(crate) fn over(
-    links: &[u32; LINKED],
-    linked: usize,
-    client: u32,
-    switch: u32,
-    port: u32,
-) -> Onward
-    requires { linked ≤ most_links }
-    ensures { step_of result ≡ traces.over client (links_in links.now linked) switch port }
+pub fn over_port(links: &[PortLink], client: u32, switch: u32, port: u32) -> Onward
+    ensures { step_of result ≡ traces.over client (links_in links.now) switch port }
 {
-    let mut i: usize = 0;
-    while i < linked {
-        let at = i * limits::LINK;
-        if links[at] == switch {
-            if links[at + 1] == port {
-                return behind(links[at + 2], links[at + 3], client);
-            }
+    for link in links {
+        if link.switch == switch && link.port == port {
+            return link.behind(client);
         }
-        i += 1;
     }
     Onward::Foreign
 }
 
-// What a link does with a client's packet: 0 owns what every client may use, and no switch past the last one lies behind.
-fn behind(far: u32, owner: u32, client: u32) -> Onward
-    ensures { step_of result ≡ behind_link far owner client }
-{
-    if owner != 0 {
-        if owner != client {
-            return Onward::Foreign;
-        }
-    }
-    if far < limits::SWITCHES {
-        Onward::GoesTo(far)
-    } else {
-        Onward::Leaves
-    }
-}
-
-// The way of a packet to an address once the marked changes are made.
+// The way of a packet of a line of traffic to an address once the marked changes are made.
 pub(crate) fn follow(
-    changes: &[u32; CHANGED],
-    links: &[u32; LINKED],
+    changes: &[AgreedChange],
+    links: &[PortLink],
     marks: &[bool; limits::CHANGES],
-    q: Quest,
+    line: Line,
     address: u64,
 ) -> Ending
-    requires { (q.count ≤ most_changes) × (q.linked ≤ most_links) }
+    requires { length changes.now ≤ most_changes }
     ensures { end_of result
-        ≡ traces.follow q.client (links_in links.now q.linked)
-        (λ (s : ℕ). finds_after (changes_in changes.now q.count)
-        (covering (changes_in changes.now q.count) address)
-        (made_in marks.now q.count) s) switch_count q.entry }
+        ≡ traces.follow line.client (links_in links.now)
+        (λ (s : ℕ). finds_after (changes_in changes.now)
+        (covering (changes_in changes.now) address)
+        (made_in marks.now (length changes.now)) s) switch_count line.entry }
 {
-    let mut switch = q.entry;
-    let mut hops: usize = 0;
-    while hops < limits::HOPS {
-        let port = finds(changes, marks, q.count, switch, address);
-        if port == 0 {
+    let mut switch = line.entry;
+    for _hop in 0..limits::HOPS {
+        let Some(port) = finds(changes, marks, changes.len(), switch, address) else {
             return Ending::Lost(switch);
-        }
-        let onward = over(links, q.linked, q.client, switch, port);
-        match onward {
+        };
+        match over_port(links, line.client, switch, port) {
             Onward::Foreign => return Ending::Crossed(switch, port),
             Onward::Leaves => return Ending::Arrived,
-            Onward::GoesTo(next) => {
-                switch = next;
-            }
+            Onward::GoesTo(next) => switch = next,
         }
-        hops += 1;
     }
     Ending::Circling
 }
 
-// The port that a switch finds for an address once the marked ones of the first changes are made, or 0; a count past the
-// places counts as all.
+// The port that a switch finds for an address once the marked ones of the changes are made; changes past the places for
+// marks are not made.
 pub fn port_at(
-    changes: &[u32; CHANGED],
-    count: usize,
+    changes: &[AgreedChange],
     made: &[bool; limits::CHANGES],
     switch: u32,
     address: u64,
-) -> u32
-    ensures { found_of result
-        ≡ finds_after (changes_in changes.now (capped count))
-        (covering (changes_in changes.now (capped count)) address) (made_in made.now (capped count))
-        switch }
+) -> Option<u32>
+    ensures { result
+        ≡ finds_after (first_changes changes.now (capped (length changes.now)))
+        (covering (first_changes changes.now (capped (length changes.now))) address)
+        (made_in made.now (capped (length changes.now))) switch }
 {
-    if count <= limits::CHANGES {
-        finds(changes, made, count, switch, address)
-    } else {
-        finds(changes, made, limits::CHANGES, switch, address)
-    }
-}
-
-// What a port of a switch does with a client's packet; a count past the places counts as all.
-pub fn over_port(
-    links: &[u32; LINKED],
-    linked: usize,
-    client: u32,
-    switch: u32,
-    port: u32,
-) -> Onward
-    ensures { step_of result ≡ traces.over client (links_in links.now (capped linked)) switch port }
-{
-    if linked <= limits::LINKS {
-        over(links, linked, client, switch, port)
-    } else {
-        over(links, limits::LINKS, client, switch, port)
-    }
+    finds(
+        changes,
+        made,
+        changes.len().min(limits::CHANGES),
+        switch,
+        address,
+    )
 }

@@ -26,11 +26,11 @@ use Rattle.playbook.proofs.Listed.{no_changes}
 use Rattle.controller.specs.Changes.{empty_undone, undone_of, is_undone, still_undone, numbered_from}
 use Rattle.controller.specs.States.{unchanged, controller_ok}
 use Rattle.controller.specs.Acknowledgements.{acknowledged_of, serial_of, acknowledge}
-use Rattle.controller.specs.Acknowledgements.{offer_said, offers, take_event}
+use Rattle.controller.specs.Acknowledgements.{event_of, offer_said, offers, take_event}
 use Rattle.controller.specs.Receiving.{received_by}
 use Rattle.controller.specs.Decisions.{given_by, held_after, decided, decided_by}
 use Rattle.controller.specs.declared.Controller.{Controller}
-use Rattle.controller.specs.declared.Offer.TheVariants.{Nothing, Event}
+use Rattle.std.specs.Prelude.{Some, None}
 use Rattle.controller.specs.declared.Reply.{Reply}
 use Rattle.controller.specs.declared.Undone.{Undone}
 use Rattle.controller.proofs.Within.{within, held_fits}
@@ -51,7 +51,7 @@ pub record Offered (c : Controller) (keys bytes : List ℕ) (r : Reply) : Type 0
   pub cause : ℕ
   pub arrives : Arrives c keys bytes switch (kinds.Event switch c.id serial cause)
   pub above : serial_of c switch < serial
-  pub offer : r.offer ≡ Event switch serial cause
+  pub offer : r.offer ≡ Some (event_of switch serial cause)
   pub state : r.state ≡ c
 
 -- answer 0 to an acknowledgement: its number is the switch's, and the changes that are done now are dropped
@@ -60,7 +60,7 @@ pub record Acknowledged (c : Controller) (keys bytes : List ℕ) (r : Reply) : T
   pub number : ℕ
   pub arrives : Arrives c keys bytes switch (Acknowledgement switch c.id number)
   pub above : acknowledged_of c switch < number
-  pub offer : r.offer ≡ Nothing
+  pub offer : r.offer ≡ None
   pub state : r.state ≡ acknowledge c switch number
   pub new : switch < length c.progress.acknowledged → acknowledged_of r.state switch ≡ number
   pub others : (i : ℕ) → (i ≡ switch → ⊥) → acknowledged_of r.state i ≡ acknowledged_of c i
@@ -73,7 +73,7 @@ pub record Repeated (c : Controller) (keys bytes : List ℕ) (r : Reply) : Type 
   pub number : ℕ
   pub arrives : Arrives c keys bytes switch (Acknowledgement switch c.id number)
   pub old : number ≤ acknowledged_of c switch
-  pub offer : r.offer ≡ Nothing
+  pub offer : r.offer ≡ None
   pub state : r.state ≡ c
 
 -- an undone change once a number is acknowledged: done where that is of its switch and not below its own

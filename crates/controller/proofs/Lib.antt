@@ -1,4 +1,4 @@
--- Laws of the controller end. Places, Scanning, Searching, Shares, Steps and Walked are for this crate's own functions.
+-- Laws of the controller end. Chains, Places, Scanning, Shares, Steps and Walked are for this crate's own functions.
 pub mod Within
 pub mod Waiting
 pub mod Staying
@@ -13,9 +13,9 @@ pub mod Effects
 pub mod Sent
 pub mod Holding
 pub mod Remade
+mod Chains
 mod Places
 mod Scanning
-mod Searching
 mod Shares
 mod Steps
 mod Walked

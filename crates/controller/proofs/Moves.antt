@@ -2,6 +2,7 @@
 -- call, its facts and its reply. And what every call keeps, a list of calls keeps. Assumes nothing.
 use mathlib.Core.List.{List, [], ◌∷◌}
 use Prim.Native.Nat.{ℕ, ◌<◌}
+use Rattle.std.specs.Prelude.{Option}
 use Rattle.answer.proofs.Asked.{reply-keeps}
 use Rattle.message.specs.declared.Message.TheVariants.{Acknowledgement}
 use Rattle.controller.specs.States.{unchanged}
@@ -10,14 +11,14 @@ use Rattle.controller.specs.Decisions.{decided}
 use Rattle.controller.specs.Writing.{share_written}
 use Rattle.controller.specs.Calls.{decides, Call, receives, writes_share, manages, reply_to, after}
 use Rattle.controller.specs.declared.Controller.{Controller}
-use Rattle.controller.specs.declared.Offer.{Offer}
+use Rattle.controller.specs.declared.Event.{Event}
 use Rattle.controller.specs.declared.Reply.{Reply}
 use Rattle.controller.proofs.Taken.{Arrives, Received, refused, offered, repeated, acknowledged, received}
 use Rattle.controller.proofs.Deciding.{Decides, Decided, declined, taken, decision}
 
 -- what a call replies
 pub data Moves (keys : List ℕ) (c : Controller) : Call → Reply → Type 0 where
-  stays : {x : Call} {k : ℕ} {o : Offer} → Moves keys c x (record { answer = k; offer = o; state = c })
+  stays : {x : Call} {k : ℕ} {o : Option Event} → Moves keys c x (record { answer = k; offer = o; state = c })
   takes_acknowledgement_lem : {bytes : List ℕ} {s number : ℕ} → Arrives c keys bytes s (Acknowledgement s c.id number)
       → acknowledged_of c s < number → Moves keys c (receives bytes) (unchanged (acknowledge c s number) 0)
   takes_decision : {s serial cause : ℕ} → Decides c s serial cause

@@ -5,8 +5,8 @@ use mathlib.Core.Bool.{Bool, true, false, and-false}
 use mathlib.Core.List.{List, [], ◌∷◌, ◌++◌, append-nil, append_assoc}
 use Prim.Native.Nat.{ℕ, suc, ◌+◌, ◌≤◌, ◌<◌}
 use native.Mathlib.Omega.{arith}
-use lib.ListN.{length, get_or, take, drop, length-append, length-drop}
-use lib.Seq.{length-take-le, get_or-drop}
+use lib.ListN.{length, get_or, take, length-append}
+use lib.Seq.{length-take-le}
 use borrow.Author.Tests.{eqb-true}
 use Rattle.answer.specs.Ask.{pick}
 use Rattle.answer.proofs.Bools.{by_bool, tf}
@@ -63,18 +63,15 @@ module _ (first : ℕ) where
       let e : number + suc (length cs) ≡ number + 1 + length cs = omega arith in
       rw e (ap (λ (us : List Undone). numbered first number d ∷ us) (numbered_snoc (number + 1) cs c))
 
-  -- a turn of the loop that gives them, over the changes from a place of the store on
-  pub numbered_turn : (number : ℕ) (listed : List Change) (from i : ℕ) (z : Change) {u : Undone}
-      → from + i < length listed → u ≡ numbered first (number + i) (get_or listed (from + i) z)
-      → numbered_from first number (take (i + 1) (drop from listed))
-      ≡ numbered_from first number (take i (drop from listed)) ++ u ∷ []
-  numbered_turn number listed from i z h e =
-      let cs = drop from listed in
-      let inside : i < length cs = simp length-drop (omega arith) in
-      let n : length (take i cs) ≡ i = length-take-le i cs (omega arith) in
-      ap (numbered_from first number) (take_next cs i z inside)
-      ∙ numbered_snoc number (take i cs) (get_or cs i z)
-      ∙ rw (n, get_or-drop from listed i z, e)
+  -- a turn of the loop that gives them
+  pub numbered_turn : (number : ℕ) (plan : List Change) (i : ℕ) (z : Change) {u : Undone}
+      → i < length plan → u ≡ numbered first (number + i) (get_or plan i z)
+      → numbered_from first number (take (i + 1) plan) ≡ numbered_from first number (take i plan) ++ u ∷ []
+  numbered_turn number plan i z inside e =
+      let n : length (take i plan) ≡ i = length-take-le i plan (omega arith) in
+      ap (numbered_from first number) (take_next plan i z inside)
+      ∙ numbered_snoc number (take i plan) (get_or plan i z)
+      ∙ rw (n, e)
 
 -- only the empty undone change passes the test of an unused place
 only_empty : (u : Undone) → undone_empty u ≡ true → u ≡ empty_undone

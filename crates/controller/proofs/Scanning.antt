@@ -3,12 +3,12 @@
 use mathlib.Core.Path.{◌≡◌, refl, sym, ◌∙◌}
 use mathlib.Core.Bool.{Bool, true, false, not}
 use mathlib.Core.List.{List}
-use Prim.Native.Nat.{ℕ, ◌+◌, ◌≤◌, ◌<◌}
+use Prim.Native.Nat.{ℕ, ◌+◌, ◌<◌}
 use native.Mathlib.Numerals.{add-one}
 use native.Mathlib.Omega.{arith}
 use lib.Dec.{eqb}
 use lib.ListN.{length, get_or, take, length-take}
-use lib.Seq.{take-suc, take-take, get_or-take, length-take-le}
+use lib.Seq.{take-suc, get_or-take, length-take-le}
 use borrow.Author.Tests.{eq-eqb, ne_eqb, not-true, not-false}
 use Rattle.answer.specs.Ask.{pick}
 use Rattle.answer.proofs.Bools.{by_bool, by_eq, by_le, tf}
@@ -17,7 +17,7 @@ use Rattle.lists.specs.Rising.{rising_from}
 use Rattle.lists.proofs.Tails.{every_at, every-fails, every_snoc}
 use Rattle.controller.specs.Changes.{empty_undone, numbers_of}
 use Rattle.controller.specs.Readiness.{ties, is_ready, ready_of}
-use Rattle.controller.specs.declared.Ready.TheVariants.{Nothing, Change}
+use Rattle.std.specs.Prelude.{Some, None}
 use Rattle.controller.specs.declared.Undone.{Undone}
 use Rattle.controller.proofs.Waiting.{undone_at, ready_free, Readied, ready_sound, by_ready}
 use Rattle.controller.proofs.Waiting.{later_higher, earlier_ready, later_waits, ready_found}
@@ -30,7 +30,7 @@ not_here : (s : ℕ) (v : Undone) → elsewhere s v ≡ true → v.switch ≡ s 
 not_here s v h e = tf (eq-eqb _ _ e) (not-true (eqb v.switch s) h)
 
 -- where none is on the switch none is ready
-pub none_there : (s : ℕ) (us : List Undone) → every (elsewhere s) us ≡ true → ready_of s us ≡ Nothing
+pub none_there : (s : ℕ) (us : List Undone) → every (elsewhere s) us ≡ true → ready_of s us ≡ None
 none_there s us h =
     by_ready (ready_of s us)
     (λ u e.
@@ -81,7 +81,7 @@ module _ (s : ℕ) (us : List Undone) (rising : rising_from 0 (numbers_of us) �
       (rw a.there r.ready)))
       (λ l. earlier a.place l (rw a.there r.on))
 
-  first_ready_lem : ready_of s us ≡ pick (every (λ v. not (ties it v)) (take i us)) (Change it) Nothing
+  pub first_ready_lem : ready_of s us ≡ pick (every (λ v. not (ties it v)) (take i us)) (Some it) None
   first_ready_lem =
       by_bool (every (λ v. not (ties it v)) (take i us))
       (λ h. rw h (ready_found us rising s it
@@ -94,13 +94,3 @@ pub one_more : (s : ℕ) (us : List Undone) (i : ℕ) (z : Undone) → i < lengt
 one_more s us i z h other off =
     rw (add-one, take-suc us i z h)
     (every_snoc (elsewhere s) (take i us) (get_or us i z) ∙ rw (other, ne_eqb (get_or us i z).switch s off))
-
-pub ready_at : (s : ℕ) (us : List Undone) (n i : ℕ) → i < n → n ≤ length us
-    → rising_from 0 (numbers_of (take n us)) ≡ true → every (elsewhere s) (take i us) ≡ true → (undone_at us i).switch ≡ s
-    → ready_of s (take n us)
-    ≡ pick (every (λ v. not (ties (undone_at us i) v)) (take i us)) (Change (undone_at us i)) Nothing
-ready_at s us n i h k rises other on =
-    let inside : i < length (take n us) = omega (arith, length-take-le n us k) in
-    rw (← get_or-take n us i empty_undone h, ← take-take i n us (omega arith))
-    (first_ready_lem s (take n us) rises i inside (rw (take-take i n us (omega arith)) other)
-    (rw (get_or-take n us i empty_undone h) on))

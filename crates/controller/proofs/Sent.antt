@@ -24,8 +24,7 @@ use Rattle.controller.specs.States.{controller_ok}
 use Rattle.controller.specs.Readiness.{is_ready, ready_for}
 use Rattle.controller.specs.Writing.{share_of, share_for, write_questions, share_written}
 use Rattle.controller.specs.declared.Controller.{Controller}
-use Rattle.controller.specs.declared.Ready.{Ready}
-use Rattle.controller.specs.declared.Ready.TheVariants.{Nothing, Change}
+use Rattle.std.specs.Prelude.{Option, Some, None}
 use Rattle.controller.specs.declared.Reply.{Reply}
 use Rattle.controller.specs.declared.Undone.{Undone}
 use Rattle.controller.proofs.Waiting.{undone_at, none_ready}
@@ -38,16 +37,16 @@ pub record Allowed (c : Controller) (keys : List ℕ) (s : ℕ) (frame : List �
   pub known : s < 16
   pub room : at + share_length ≤ length frame
   pub change : Undone
-  pub ready : ready_for c s ≡ Change change
+  pub ready : ready_for c s ≡ Some change
 
 -- there is a share where a change is ready
-pub share-there : (id s : ℕ) (r : Ready) → is_message (share_of id s r) ≡ true → (u : Undone) × (r ≡ Change u)
-share-there id s (Change u) h = (u, refl)
-share-there id s Nothing h = tf h refl
+pub share-there : (id s : ℕ) (r : Option Undone) → is_message (share_of id s r) ≡ true → (u : Undone) × (r ≡ Some u)
+share-there id s (Some u) h = (u, refl)
+share-there id s None h = tf h refl
 
-share_missing : (id s : ℕ) (r : Ready) → is_message (share_of id s r) ≡ false → r ≡ Nothing
-share_missing id s (Change u) h = tf refl h
-share_missing id s Nothing h = refl
+share_missing : (id s : ℕ) (r : Option Undone) → is_message (share_of id s r) ≡ false → r ≡ None
+share_missing id s (Some u) h = tf refl h
+share_missing id s None h = refl
 
 -- the last of five questions, where it is the first whose answer is no
 last_no : (a b c d e : Bool) → first_no ((20, a) ∷ (21, b) ∷ (12, c) ∷ (25, d) ∷ (26, e) ∷ []) ≡ 26 → e ≡ false
@@ -78,7 +77,7 @@ module _ (c : Controller) (keys : List ℕ) (s : ℕ) (frame : List ℕ) (at : �
   not-sent h = ap (λ (r : Reply × List ℕ). r.1) (some_no questions _ _ (λ q. h (answer_is ∙ q)))
 
   -- 26 is answered only where no change is ready
-  pub nothing_ready : (share_written c keys s frame at).0.answer ≡ 26 → ready_for c s ≡ Nothing
+  pub nothing_ready : (share_written c keys s frame at).0.answer ≡ 26 → ready_for c s ≡ None
   nothing_ready h =
       share_missing c.id s (ready_for c s) (last_no _ _ (ltb s 16) _ (is_message (share_for c s)) (sym answer_is ∙ h))
 
@@ -94,10 +93,10 @@ module _ (c : Controller) (keys : List ℕ) (s : ℕ) (frame : List ℕ) (at : �
     unfolding reply
     last_asked = answer_is ∙ rw (limits, eq-eqb _ _ store, lt-ltb _ _ known, le-leb _ _ room)
 
-    pub nothing-sent : ready_for c s ≡ Nothing → (share_written c keys s frame at).0.answer ≡ 26
+    pub nothing-sent : ready_for c s ≡ None → (share_written c keys s frame at).0.answer ≡ 26
     nothing-sent r = last_asked ∙ rw r
 
-    pub ready_sent : (u : Undone) → ready_for c s ≡ Change u → (share_written c keys s frame at).0.answer ≡ 0
+    pub ready_sent : (u : Undone) → ready_for c s ≡ Some u → (share_written c keys s frame at).0.answer ≡ 0
     ready_sent u r = last_asked ∙ rw r
 
   module _ (h : (share_written c keys s frame at).0.answer ≡ 0) where
@@ -128,7 +127,7 @@ module _ (c : Controller) (keys : List ℕ) (s : ℕ) (frame : List ℕ) (at : �
         rw (frame_is, allowed.ready) (placed_message (key_at keys s) m frame at allowed.room)
 
     -- and in range, they are read as it
-    pub share-sent : (u : Undone) → ready_for c s ≡ Change u → InRange (Share c.id s u.number u.rule)
+    pub share-sent : (u : Undone) → ready_for c s ≡ Some u → InRange (Share c.id s u.number u.rule)
         → Sent (key_at keys s) (Share c.id s u.number u.rule) frame at (share_written c keys s frame at).1
     share-sent u r range =
         let port = rw r at (share_said_lem c s allowed.limits) in

@@ -19,8 +19,7 @@ use Rattle.controller.specs.States.{controller_ok}
 use Rattle.controller.specs.Readiness.{ready_for}
 use Rattle.controller.specs.Writing.{share_of, share_for}
 use Rattle.controller.specs.declared.Controller.{Controller}
-use Rattle.controller.specs.declared.Ready.{Ready}
-use Rattle.controller.specs.declared.Ready.TheVariants.{Nothing, Change}
+use Rattle.std.specs.Prelude.{Option, Some, None}
 use Rattle.controller.specs.declared.Undone.{Undone}
 use Rattle.controller.proofs.Waiting.{ready_fits}
 use Rattle.controller.proofs.Within.{within}
@@ -30,19 +29,19 @@ abbrev pub written_if_any : List ℕ → Message → List ℕ → ℕ → ℕ ×
 written_if_any key m frame at = reply ((26, is_message m) ∷ []) (λ k. (k, frame)) (0, placed (encode key m) frame at)
 
 module _ (id s : ℕ) where
-  said : (r : Ready) → ((u : Undone) → r ≡ Change u → well_formed u.rule ≡ true) → port_said (share_of id s r) ≡ true
-  said (Change u) formed = (and_parts (prefix_ok (rule_key u.rule)) (port_ok u.rule.action) (formed u refl)).1
-  said Nothing formed = refl
+  said : (r : Option Undone) → ((u : Undone) → r ≡ Some u → well_formed u.rule ≡ true) → port_said (share_of id s r) ≡ true
+  said (Some u) formed = (and_parts (prefix_ok (rule_key u.rule)) (port_ok u.rule.action) (formed u refl)).1
+  said None formed = refl
 
-  writes : (r : Ready) (key frame : List ℕ) (at : ℕ) → port_said (share_of id s r) ≡ true
+  writes : (r : Option Undone) (key frame : List ℕ) (at : ℕ) → port_said (share_of id s r) ≡ true
       → at + share_length ≤ length frame
       → write_to key (share_of id s r) frame at ≡ written_if_any key (share_of id s r) frame at
-  writes (Change u) key frame at p room =
-      all_written key (share_of id s (Change u)) frame at refl p room
+  writes (Some u) key frame at p room =
+      all_written key (share_of id s (Some u)) frame at refl p room
       ∙ sym (asked _ _ 26 true _ refl ∙ none_asked _ _)
-  writes Nothing key frame at p room =
+  writes None key frame at p room =
       let fit : at + 0 ≤ length frame = omega arith in
-      nothing_written key (share_of id s Nothing) frame at p fit refl ∙ sym (refused _ _ 26 false _ refl)
+      nothing_written key (share_of id s None) frame at p fit refl ∙ sym (refused _ _ 26 false _ refl)
 
 module _ (c : Controller) (s : ℕ) (ok : controller_ok c ≡ true) where
   pub share_said_lem : port_said (share_for c s) ≡ true

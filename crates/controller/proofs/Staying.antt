@@ -24,8 +24,7 @@ use Rattle.controller.specs.Readiness.{is_ready, ready_of, ready_for}
 use Rattle.controller.specs.Decisions.{held_after, decided}
 use Rattle.controller.specs.Calls.{decides, Call, receives, manages, reply_to}
 use Rattle.controller.specs.declared.Controller.{Controller}
-use Rattle.controller.specs.declared.Ready.{Ready}
-use Rattle.controller.specs.declared.Ready.TheVariants.{Nothing, Change}
+use Rattle.std.specs.Prelude.{Option, Some, None}
 use Rattle.controller.specs.declared.Reply.{Reply}
 use Rattle.controller.specs.declared.Undone.{Undone}
 use Rattle.controller.proofs.Within.{Within}
@@ -38,11 +37,11 @@ use Rattle.controller.proofs.Waiting.{undone_at, Stands, ready_free, free_ready}
 use Rattle.controller.proofs.Waiting.{ready_sound, later_higher, later_waits, ready_found, ready_fits}
 
 -- two searches that find the same
-same_found : (q r : Ready) → ((u : Undone) → q ≡ Change u → r ≡ Change u) → ((u : Undone) → r ≡ Change u → q ≡ Change u)
+same_found : (q r : Option Undone) → ((u : Undone) → q ≡ Some u → r ≡ Some u) → ((u : Undone) → r ≡ Some u → q ≡ Some u)
     → q ≡ r
-same_found (Change u) r f g = sym (f u refl)
-same_found Nothing (Change u) f g = g u refl
-same_found Nothing Nothing f g = refl
+same_found (Some u) r f g = sym (f u refl)
+same_found None (Some u) f g = g u refl
+same_found None None f g = refl
 
 -- changes behind the others, with higher numbers
 module _ (us ws : List Undone) (rising : rising_from 0 (numbers_of (us ++ ws)) ≡ true) where
@@ -74,7 +73,7 @@ module _ (us ws : List Undone) (rising : rising_from 0 (numbers_of (us ++ ws)) �
       (rw (map-append, rising_append) at rising)).0
 
   -- what is found among the first is found among all
-  pub found_still : (s : ℕ) (u : Undone) → ready_of s us ≡ Change u → ready_of s (us ++ ws) ≡ Change u
+  pub found_still : (s : ℕ) (u : Undone) → ready_of s us ≡ Some u → ready_of s (us ++ ws) ≡ Some u
   found_still s u h =
       let r = ready_sound s us u h in
       let a = r.stands in
@@ -90,7 +89,7 @@ module _ (us ws : List Undone) (rising : rising_from 0 (numbers_of (us ++ ws)) �
 
   -- and on a switch of one of the first nothing else is, since every change further on waits for that one
   module _ (s : ℕ) (v : Undone) (b : Stands us v) (e : v.switch ≡ s) where
-    found_before : (u : Undone) → ready_of s (us ++ ws) ≡ Change u → ready_of s us ≡ Change u
+    found_before : (u : Undone) → ready_of s (us ++ ws) ≡ Some u → ready_of s us ≡ Some u
     found_before u h =
         let r = ready_sound s (us ++ ws) u h in
         let a = r.stands in
@@ -136,7 +135,7 @@ module _ (f : Undone → Bool) where
   ready_passing us u r = every-passing f _ us r
 
   pub found_passing : (us : List Undone) → rising_from 0 (numbers_of us) ≡ true → (s : ℕ) (u : Undone)
-      → ready_of s us ≡ Change u → f u ≡ true → ready_of s (passing f us) ≡ Change u
+      → ready_of s us ≡ Some u → f u ≡ true → ready_of s (passing f us) ≡ Some u
   found_passing us rising s u h e =
       let r = ready_sound s us u h in
       ready_found (passing f us) (rising_passing f (λ (v : Undone). v.number) 0 us rising) s u (record {
@@ -146,9 +145,9 @@ module _ (f : Undone → Bool) where
       })
 
 -- an acknowledgement takes no readiness from a change that it leaves undone, so none on another switch
-module _ (c : Controller) (w : Within c) (t number s : ℕ) (u : Undone) (h : ready_for c s ≡ Change u) where
+module _ (c : Controller) (w : Within c) (t number s : ℕ) (u : Undone) (h : ready_for c s ≡ Some u) where
   pub acknowledgement-keeps : is_undone (set c.progress.acknowledged t number) u ≡ true
-      → ready_for (acknowledge c t number) s ≡ Change u
+      → ready_for (acknowledge c t number) s ≡ Some u
   acknowledgement-keeps e =
       let us = undone_of c in
       let still = is_undone (set c.progress.acknowledged t number) in
@@ -156,7 +155,7 @@ module _ (c : Controller) (w : Within c) (t number s : ℕ) (u : Undone) (h : re
       ap (ready_of s) (pad-take 64 empty_undone (passing still us) (omega (arith, passing-few still us, w.count)))
       ∙ found_passing still us w.rising s u h e
 
-  pub other_acknowledged : (s ≡ t → ⊥) → ready_for (acknowledge c t number) s ≡ Change u
+  pub other_acknowledged : (s ≡ t → ⊥) → ready_for (acknowledge c t number) s ≡ Some u
   other_acknowledged other =
       let on = (ready_sound s (undone_of c) u h).on in
       let above = rw on at (ready_fits c w s u h).above in

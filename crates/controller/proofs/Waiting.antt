@@ -17,8 +17,7 @@ use Rattle.lists.proofs.Tails.{every_at, every_all}
 use Rattle.controller.specs.Changes.{empty_undone, undone_of, numbers_of}
 use Rattle.controller.specs.Readiness.{same_switch, ties, waits_for, is_ready, first_ready, ready_of, ready_for}
 use Rattle.controller.specs.declared.Controller.{Controller}
-use Rattle.controller.specs.declared.Ready.{Ready}
-use Rattle.controller.specs.declared.Ready.TheVariants.{Nothing, Change}
+use Rattle.std.specs.Prelude.{Option, Some, None}
 use Rattle.controller.specs.declared.Undone.{Undone}
 use Rattle.controller.proofs.Within.{Within, Fits, held_fits}
 
@@ -69,12 +68,12 @@ pub record Readied (s : ℕ) (us : List Undone) (u : Undone) : Type 0 where
   pub on : u.switch ≡ s
   pub ready : is_ready us u ≡ true
 
-never : {C : Type 0} {u : Undone} → Change u ≡ Nothing → C
+never : {C : Type 0} {u : Undone} → Some u ≡ None → C
 never h = let z : ◌≡◌ {A = ℕ} 0 1 = cc in absurd (omega arith)
 
 -- the search among some of all changes
 module _ (s : ℕ) (all : List Undone) where
-  first_sound : (us : List Undone) (u : Undone) → first_ready s all us ≡ Change u
+  first_sound : (us : List Undone) (u : Undone) → first_ready s all us ≡ Some u
       → Stands us u × (u.switch ≡ s) × (is_ready all u ≡ true)
   unfolding first_ready
   first_sound [] u h = never (sym h)
@@ -82,7 +81,7 @@ module _ (s : ℕ) (all : List Undone) where
       by_bool (eqb v.switch s && is_ready all v)
       (λ e.
       let t = and_parts (eqb v.switch s) (is_ready all v) e in
-      let found : Change v ≡ Change u = rw e at h in
+      let found : Some v ≡ Some u = rw e at h in
       let same : v ≡ u = cc in (
         record { place = 0; inside = omega arith; there = same },
         rw (← same) (eqb-true _ _ t.0),
@@ -93,7 +92,7 @@ module _ (s : ℕ) (all : List Undone) where
       let w = t.0 in
       (record { place = suc w.place; inside = omega (arith, w.inside); there = w.there }, t.1, t.2))
 
-  first_none : (us : List Undone) → first_ready s all us ≡ Nothing → (i : ℕ) → i < length us
+  first_none : (us : List Undone) → first_ready s all us ≡ None → (i : ℕ) → i < length us
       → (undone_at us i).switch ≡ s → is_ready all (undone_at us i) ≡ true → ⊥
   unfolding first_ready
   first_none [] h i n e r = absurd (omega arith)
@@ -107,16 +106,16 @@ module _ (s : ℕ) (all : List Undone) where
 
 module _ (s : ℕ) (us : List Undone) where
   -- what is found is a ready change of the switch; where nothing is found it has none
-  pub ready_sound : (u : Undone) → ready_of s us ≡ Change u → Readied s us u
+  pub ready_sound : (u : Undone) → ready_of s us ≡ Some u → Readied s us u
   ready_sound u h = let t = first_sound s us us u h in record { stands = t.0; on = t.1; ready = t.2 }
 
-  pub none_ready : ready_of s us ≡ Nothing → (i : ℕ) → i < length us → (undone_at us i).switch ≡ s
+  pub none_ready : ready_of s us ≡ None → (i : ℕ) → i < length us → (undone_at us i).switch ≡ s
       → is_ready us (undone_at us i) ≡ false
   none_ready h i n e = is_false _ (first_none s us us h i n e)
 
-pub by_ready : {C : Type 0} (r : Ready) → ((u : Undone) → r ≡ Change u → C) → (r ≡ Nothing → C) → C
-by_ready (Change u) found none = found u refl
-by_ready Nothing found none = none refl
+pub by_ready : {C : Type 0} (r : Option Undone) → ((u : Undone) → r ≡ Some u → C) → (r ≡ None → C) → C
+by_ready (Some u) found none = found u refl
+by_ready None found none = none refl
 
 -- where the numbers rise
 module _ (us : List Undone) (rising : rising_from 0 (numbers_of us) ≡ true) where
@@ -161,24 +160,24 @@ module _ (us : List Undone) (rising : rising_from 0 (numbers_of us) ≡ true) wh
       sym a.there ∙ ap (undone_at us) same ∙ b.there
 
   -- and it is found
-  pub ready_found : (s : ℕ) (u : Undone) → Readied s us u → ready_of s us ≡ Change u
+  pub ready_found : (s : ℕ) (u : Undone) → Readied s us u → ready_of s us ≡ Some u
   ready_found s u r =
       let a = r.stands in
       by_ready (ready_of s us)
-      (λ v h. h ∙ ap Change (same_ready s v u (ready_sound s us v h) r))
+      (λ v h. h ∙ ap Some (same_ready s v u (ready_sound s us v h) r))
       (λ h. tf (rw a.there r.ready) (none_ready s us h a.place a.inside (rw a.there r.on)))
 
   -- the lowest undone change waits for none
   pub lowest_ready : 0 < length us → is_ready us (undone_at us 0) ≡ true
   lowest_ready n = earlier_ready 0 n (λ j l. absurd (omega arith))
 
-  pub lowest_found : 0 < length us → ready_of (undone_at us 0).switch us ≡ Change (undone_at us 0)
+  pub lowest_found : 0 < length us → ready_of (undone_at us 0).switch us ≡ Some (undone_at us 0)
   lowest_found n =
       ready_found (undone_at us 0).switch (undone_at us 0)
       (record { stands = record { place = 0; inside = n; there = refl }; on = refl; ready = lowest_ready n })
 
 -- a ready change of a controller within its limits is within its own
-pub ready_fits : (c : Controller) → Within c → (s : ℕ) (u : Undone) → ready_for c s ≡ Change u
+pub ready_fits : (c : Controller) → Within c → (s : ℕ) (u : Undone) → ready_for c s ≡ Some u
     → Fits c.progress.acknowledged c.progress.last u
 ready_fits c w s u h =
     let a = (ready_sound s (undone_of c) u h).stands in

@@ -1,12 +1,11 @@
 -- An acknowledgement and an event, over the state and their fields (document 01, "Controller end" and the questions of
 -- a received message). Assumes nothing.
-use Rattle.std.specs.Prelude.{ℕ, [], ◌∷◌, get_or, set, ltb}
+use Rattle.std.specs.Prelude.{ℕ, [], ◌∷◌, get_or, set, ltb, Option, Some, None}
 use Rattle.answer.specs.Ask.{Numbered, pick, reply}
 use Rattle.controller.specs.Changes.{undone_in, held_of, still_undone}
 use Rattle.controller.specs.States.{unchanged, progressed}
 use Rattle.controller.specs.declared.Controller.{Controller}
-use Rattle.controller.specs.declared.Offer.{Offer}
-use Rattle.controller.specs.declared.Offer.TheVariants.{Nothing, Event}
+use Rattle.controller.specs.declared.Event.{Event}
 use Rattle.controller.specs.declared.Progress.{Progress}
 use Rattle.controller.specs.declared.Reply.{Reply}
 
@@ -34,14 +33,17 @@ abbrev pub take_acknowledgement : Controller → ℕ → ℕ → Reply
 take_acknowledgement c s number =
     pick (ltb (acknowledged_of c s) number) (unchanged (acknowledge c s number) 0) (unchanged c 2)
 
+abbrev pub event_of : ℕ → ℕ → ℕ → Event
+event_of s serial cause = record { switch = s; serial = serial; cause = cause }
+
 -- document 01's number of what is offered, and its values: an event's switch, serial and cause, or nothing
-abbrev pub offer_said : Offer → Numbered
-offer_said Nothing = (0, [])
-offer_said (Event s serial cause) = (0, s ∷ serial ∷ cause ∷ [])
+abbrev pub offer_said : Option Event → Numbered
+offer_said None = (0, [])
+offer_said (Some e) = (0, e.switch ∷ e.serial ∷ e.cause ∷ [])
 
 -- an event is offered, and the state stays
 abbrev pub offers : Controller → ℕ → ℕ → ℕ → Reply
-offers c s serial cause = record { answer = 0; offer = Event s serial cause; state = c }
+offers c s serial cause = record { answer = 0; offer = Some (event_of s serial cause); state = c }
 
 abbrev pub take_event : Controller → ℕ → ℕ → ℕ → Reply
 take_event c s serial cause = reply ((22, ltb (serial_of c s) serial) ∷ []) (unchanged c) (offers c s serial cause)

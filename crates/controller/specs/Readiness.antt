@@ -1,11 +1,9 @@
 -- Which undone change of a switch is ready (document 01, "Controller end"). Assumes nothing.
-use Rattle.std.specs.Prelude.{ℕ, Bool, not, ◌&&◌, ◌||◌, List, [], ◌∷◌, ltb, eqb}
+use Rattle.std.specs.Prelude.{ℕ, Bool, not, ◌&&◌, ◌||◌, List, [], ◌∷◌, ltb, eqb, Option, Some, None}
 use Rattle.answer.specs.Ask.{pick}
 use Rattle.lists.specs.Arrays.{every}
 use Rattle.controller.specs.Changes.{undone_of}
 use Rattle.controller.specs.declared.Controller.{Controller}
-use Rattle.controller.specs.declared.Ready.{Ready}
-use Rattle.controller.specs.declared.Ready.TheVariants.{Nothing, Change}
 use Rattle.controller.specs.declared.Undone.{Undone}
 
 -- whether two changes are on the same switch
@@ -30,13 +28,13 @@ abbrev pub is_ready : List Undone → Undone → Bool
 is_ready us u = every (λ v. not (waits_for u v)) us
 
 -- the first change on a switch that is ready among all undone ones
-unfoldable pub first_ready : ℕ → List Undone → List Undone → Ready
-first_ready s all [] = Nothing
-first_ready s all (u ∷ us) = pick (eqb u.switch s && is_ready all u) (Change u) (first_ready s all us)
+unfoldable pub first_ready : ℕ → List Undone → List Undone → Option Undone
+first_ready s all [] = None
+first_ready s all (u ∷ us) = pick (eqb u.switch s && is_ready all u) (Some u) (first_ready s all us)
 
-abbrev pub ready_of : ℕ → List Undone → Ready
+abbrev pub ready_of : ℕ → List Undone → Option Undone
 ready_of s us = first_ready s us us
 
 -- the ready change of a switch
-abbrev pub ready_for : Controller → ℕ → Ready
+abbrev pub ready_for : Controller → ℕ → Option Undone
 ready_for c s = ready_of s (undone_of c)

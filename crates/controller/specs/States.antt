@@ -1,6 +1,6 @@
 -- The state of a controller, its setup and its limits (document 01, "Controller end" and questions 20 and 21).
 -- Assumes nothing.
-use Rattle.std.specs.Prelude.{ℕ, ◌*◌, Bool, ◌&&◌, List, [], ◌∷◌, replicate, drop, ltb, leb, eqb}
+use Rattle.std.specs.Prelude.{ℕ, ◌*◌, Bool, ◌&&◌, List, [], ◌∷◌, replicate, drop, ltb, leb, eqb, None}
 use Rattle.answer.specs.Ask.{Question, reply}
 use Rattle.answer.specs.Limits.{switch_count, most_controllers, most_undone}
 use Rattle.lists.specs.Arrays.{every}
@@ -12,14 +12,13 @@ use Rattle.playbook.specs.Storing.{stored_ok}
 use Rattle.playbook.specs.declared.Playbook.{Playbook}
 use Rattle.controller.specs.Changes.{undone_empty, held_of, undone_of, numbers_of, is_undone}
 use Rattle.controller.specs.declared.Controller.{Controller}
-use Rattle.controller.specs.declared.Offer.TheVariants.{Nothing}
 use Rattle.controller.specs.declared.Progress.{Progress}
 use Rattle.controller.specs.declared.Reply.{Reply}
 use Rattle.controller.specs.declared.Undone.{Undone}
 
 -- an answer with the state as it went in, and nothing offered
 abbrev pub unchanged : Controller → ℕ → Reply
-unchanged c k = record { answer = k; offer = Nothing; state = c }
+unchanged c k = record { answer = k; offer = None; state = c }
 
 -- a state with these moving parts, the rest as it is
 abbrev pub progressed : Controller → Progress → Controller

@@ -1,6 +1,6 @@
 -- Shares written by a controller at an offset of a frame (document 01, "Controller end" and questions 12, 25 and 26).
 -- Assumes nothing.
-use Rattle.std.specs.Prelude.{ℕ, List, [], ◌∷◌, ◌++◌, length, ltb}
+use Rattle.std.specs.Prelude.{ℕ, List, [], ◌∷◌, ◌++◌, length, ltb, Option, Some, None}
 use Rattle.answer.specs.Ask.{Question, reply}
 use Rattle.answer.specs.Limits.{switch_count}
 use Rattle.lists.specs.Frames.{room_at, placed}
@@ -12,14 +12,13 @@ use Rattle.message.specs.declared.Message.TheVariants.{Share, Refused}
 use Rattle.controller.specs.States.{unchanged, state_questions}
 use Rattle.controller.specs.Readiness.{ready_for}
 use Rattle.controller.specs.declared.Controller.{Controller}
-use Rattle.controller.specs.declared.Ready.{Ready}
-use Rattle.controller.specs.declared.Ready.TheVariants.{Nothing, Change}
 use Rattle.controller.specs.declared.Reply.{Reply}
+use Rattle.controller.specs.declared.Undone.{Undone}
 
 -- the share of a ready change for its switch, from the controller with an id; without one there is nothing to send
-abbrev pub share_of : ℕ → ℕ → Ready → Message
-share_of id s (Change u) = Share id s u.number u.rule
-share_of id s Nothing = Refused 26
+abbrev pub share_of : ℕ → ℕ → Option Undone → Message
+share_of id s (Some u) = Share id s u.number u.rule
+share_of id s None = Refused 26
 
 -- the current share for a switch
 abbrev pub share_for : Controller → ℕ → Message

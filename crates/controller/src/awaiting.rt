@@ -5,66 +5,37 @@ ghost use Rattle.controller.specs.Awaiting.{first_on, first_awaited};
 ghost use Rattle.controller.specs.Changes.{undone_in};
 ghost use Rattle.controller.specs.Readiness.{waits_for};
 
-use crate::changes::empty_undone;
-use crate::readiness::is_tied;
-use crate::{Held, Undone, limits};
+use crate::{Held, Undone};
 
 // How many undone changes there are: as many as are counted, where there are places for them.
 pub fn undone_in(h: Held) -> usize
     ensures { (result ≡ length (undone_in h)) × (result ≤ most_undone) }
 {
-    if h.count <= limits::UNDONE {
-        h.count
-    } else {
-        limits::UNDONE
-    }
+    h.in_use().len()
 }
 
-// Whether a change has to wait for another.
-fn waits_for(u: Undone, v: Undone) -> bool
-    ensures { result ≡ waits_for u v }
-{
-    if v.number < u.number {
-        if v.switch == u.switch {
-            true
-        } else {
-            is_tied(u, v)
-        }
-    } else {
-        false
+impl Undone {
+    // Whether it has to wait for another change.
+    fn waits_for(&self, other: &Undone) -> bool
+        ensures { result ≡ waits_for self.now other.now }
+    {
+        other.number < self.number && (other.switch == self.switch || self.is_tied(other))
     }
 }
 
 // The first undone change on a switch, or an empty one.
+// Stays: an empty change and no Option, here and below, since its one caller says number 0 where there is none.
 pub fn first_on(h: Held, switch: u8) -> Undone
     ensures { result ≡ first_on switch (undone_in h) }
 {
-    let changes = h.changes;
-    let n = undone_in(h);
-    let mut i: usize = 0;
-    while i < n {
-        let u = changes[i];
-        if u.switch == switch {
-            return u;
-        }
-        i += 1;
-    }
-    empty_undone()
+    let first = h.in_use().iter().find(|u| u.switch == switch);
+    first.copied().unwrap_or(Undone::EMPTY)
 }
 
 // The first undone change that a change waits for, or an empty one.
 pub fn first_awaited(h: Held, u: Undone) -> Undone
     ensures { result ≡ first_awaited u (undone_in h) }
 {
-    let changes = h.changes;
-    let n = undone_in(h);
-    let mut i: usize = 0;
-    while i < n {
-        let v = changes[i];
-        if waits_for(u, v) {
-            return v;
-        }
-        i += 1;
-    }
-    empty_undone()
+    let first = h.in_use().iter().find(|v| u.waits_for(v));
+    first.copied().unwrap_or(Undone::EMPTY)
 }

@@ -34,6 +34,7 @@ pub struct Undone {
 }
 
 // The undone changes: the first `count` places are in use, by rising number.
+// Stays: places with a count, since an end uses fixed memory and no heap.
 #[derive(Clone, Copy)]
 pub struct Held {
     pub changes: [Undone; limits::UNDONE],
@@ -59,34 +60,25 @@ pub struct Controller {
     pub progress: Progress,
 }
 
-// What a call offers for agreement: an event that was received, or nothing.
-#[derive(Clone, Copy)]
-pub enum Offer {
-    Nothing,
-    Event { switch: u8, serial: u32, cause: u8 },
+// A received event, as it is offered for agreement.
+#[derive(Clone, Copy, PartialEq, Eq)]
+pub struct Event {
+    pub switch: u8,
+    pub serial: u32,
+    pub cause: u8,
 }
 
-// What a call gives: its answer, what it offers, and the state that the next call gets.
+// What a call gives: its answer, what it offers for agreement, and the state that the next call gets.
 #[derive(Clone, Copy)]
 pub struct Reply {
     pub answer: u8,
-    pub offer: Offer,
+    pub offer: Option<Event>,
     pub state: Controller,
 }
 
-// What a call does: its answer, what it offers, and the moving parts as they are afterwards. The rest of the state,
-// most of it the playbook, stays where it is; so each call puts the parts into its own state, since a function that did
-// it for them would copy the whole.
+// What a call comes to beside the state: its answer, and what it offers.
 #[derive(Clone, Copy)]
-pub(crate) struct Moved {
+pub(crate) struct Outcome {
     pub answer: u8,
-    pub offer: Offer,
-    pub progress: Progress,
-}
-
-// The ready change of a switch, or none.
-#[derive(Clone, Copy)]
-pub(crate) enum Ready {
-    Nothing,
-    Change(Undone),
+    pub offer: Option<Event>,
 }

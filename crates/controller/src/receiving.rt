@@ -1,92 +1,113 @@
 // Bytes received at a controller.
+#![tactic(auto, unfolding(answer::specs::Ask::reply, crate::specs::Receiving::received_by))]
+
 ghost use Rattle.std.specs.Prelude.{◌≡◌, true};
 ghost use Rattle.message.specs.declared.Message.TheVariants as kinds;
-ghost use Rattle.controller.specs.States.{controller_ok};
+ghost use Rattle.controller.specs.States.{unchanged, controller_ok};
 ghost use Rattle.controller.specs.Receiving.{arrived, received_by};
-ghost use Rattle.controller.specs.Moving.{moved_by};
+ghost use Rattle.controller.specs.Moving.{replied};
 
-use crate::acknowledgements::{acknowledged_by, offering};
-use crate::states::{answering, controller_ok, state_question, stays};
-use crate::{Controller, Moved, Reply, limits};
+use crate::{Controller, Event, Outcome, Reply, limits};
 use message::{End, Message};
 
-// Questions 12 to 14 and 22, of the fields of an event that was read from the bytes; then it is offered.
-fn receive_event(
-    c: Controller,
-    keys: &[u8],
-    bytes: &[u8],
-    switch: u8,
-    receiver: u8,
-    serial: u32,
-    cause: u8,
-) -> Moved
-    ensures { moved_by c result
-        ≡ arrived c keys.now bytes.now (kinds.Event switch receiver serial cause) }
-{
-    let p = c.progress;
-    let k = message::sender_question(limits::SWITCHES, c.id, keys, bytes, switch, receiver);
-    if k != answer::DONE {
-        return answering(p, k);
+impl Outcome {
+    // An answer, and nothing offered.
+    fn answered(answer: u8) -> Outcome
+        ensures { result ≡ record { answer = answer; offer = None } }
+    {
+        Outcome {
+            answer,
+            offer: None,
+        }
     }
-    if serial <= p.serials[switch as usize] {
-        return answering(p, answer::SERIAL_DECIDED);
-    }
-    offering(p, switch, serial, cause)
 }
 
-// Questions 12 to 14, of the fields of an acknowledgement that was read from the bytes; then it is taken, or a repeat.
-fn receive_acknowledgement(
-    c: Controller,
-    keys: &[u8],
-    bytes: &[u8],
-    switch: u8,
-    receiver: u8,
-    number: u32,
-) -> Moved
-    requires { controller_ok c ≡ true }
-    ensures { moved_by c result
-        ≡ arrived c keys.now bytes.now (kinds.Acknowledgement switch receiver number) }
-{
-    let p = c.progress;
-    let k = message::sender_question(limits::SWITCHES, c.id, keys, bytes, switch, receiver);
-    if k != answer::DONE {
-        return answering(p, k);
+impl Controller {
+    // Questions 12 to 14 and 22, of an event that was read from the bytes; then it is offered.
+    fn receive_event(&self, keys: &[u8], bytes: &[u8], receiver: u8, event: Event) -> Outcome
+        ensures { replied self.now result
+            ≡ arrived self.now keys.now bytes.now (kinds.Event event.switch receiver event.serial event.cause) }
+    {
+        let k = message::sender_question(
+            limits::SWITCHES,
+            self.id,
+            keys,
+            bytes,
+            event.switch,
+            receiver,
+        );
+        if k != answer::DONE {
+            return Outcome::answered(k);
+        }
+        if event.serial <= self.progress.serials[event.switch as usize] {
+            return Outcome::answered(answer::SERIAL_DECIDED);
+        }
+        Outcome {
+            answer: answer::DONE,
+            offer: Some(event),
+        }
     }
-    let s = switch as usize;
-    if number <= p.acknowledged[s] {
-        return answering(p, answer::REPEAT);
-    }
-    acknowledged_by(p, s, number)
-}
 
-// Questions 20, whose answer is given, 21, 10 and 11, then those of what was read.
-fn receipt(c: Controller, ok: bool, keys: &[u8], bytes: &[u8]) -> Moved
-    requires { ok ≡ controller_ok c }
-    ensures { moved_by c result ≡ received_by c keys.now bytes.now }
-{
-    let k = state_question(ok, keys.len());
-    if k != answer::DONE {
-        return stays(c, k);
+    // Questions 12 to 14, of an acknowledgement that was read from the bytes; then it is taken, or a repeat.
+    fn receive_acknowledgement(
+        &mut self,
+        keys: &[u8],
+        bytes: &[u8],
+        receiver: u8,
+        switch: u8,
+        number: u32,
+    ) -> u8
+        requires { controller_ok self.old ≡ true }
+        ensures { unchanged self.new result
+            ≡ arrived self.old keys.now bytes.now (kinds.Acknowledgement switch receiver number) }
+    {
+        let k = message::sender_question(limits::SWITCHES, self.id, keys, bytes, switch, receiver);
+        if k != answer::DONE {
+            return k;
+        }
+        let s = switch as usize;
+        if number <= self.progress.acknowledged[s] {
+            return answer::REPEAT;
+        }
+        self.progress.acknowledge(s, number);
+        answer::DONE
     }
-    match message::read(End::Controller, bytes) {
-        Message::Event {
-            switch,
-            controller,
-            serial,
-            cause,
-        } => receive_event(c, keys, bytes, switch, controller, serial, cause),
-        Message::Acknowledgement {
-            switch,
-            controller,
-            number,
-        } => receive_acknowledgement(c, keys, bytes, switch, controller, number),
-        Message::Refused(k) => stays(c, k),
-        Message::Share {
-            controller: _,
-            switch: _,
-            number: _,
-            rule: _,
-        } => stays(c, answer::WRONG_KIND),
+
+    // Questions 20, 21, 10 and 11, then those of what was read.
+    fn receive(&mut self, keys: &[u8], bytes: &[u8]) -> Outcome
+        ensures { replied self.new result ≡ received_by self.old keys.now bytes.now }
+    {
+        let k = self.state_question(keys.len());
+        if k != answer::DONE {
+            return Outcome::answered(k);
+        }
+        match message::read(End::Controller, bytes) {
+            Message::Event {
+                switch,
+                controller,
+                serial,
+                cause,
+            } => self.receive_event(
+                keys,
+                bytes,
+                controller,
+                Event {
+                    switch,
+                    serial,
+                    cause,
+                },
+            ),
+            Message::Acknowledgement {
+                switch,
+                controller,
+                number,
+            } => {
+                let k = self.receive_acknowledgement(keys, bytes, controller, switch, number);
+                Outcome::answered(k)
+            }
+            Message::Refused(k) => Outcome::answered(k),
+            Message::Share { .. } => Outcome::answered(answer::WRONG_KIND),
+        }
     }
 }
 
@@ -94,14 +115,10 @@ fn receipt(c: Controller, ok: bool, keys: &[u8], bytes: &[u8]) -> Moved
 pub fn receive(mut c: Controller, keys: &[u8], bytes: &[u8]) -> Reply
     ensures { result ≡ received_by c keys.now bytes.now }
 {
-    let ok = controller_ok(c);
-    let m = receipt(c, ok, keys, bytes);
-    let offer = m.offer;
-    let progress = m.progress;
-    c.progress = progress;
+    let outcome = c.receive(keys, bytes);
     Reply {
-        answer: m.answer,
-        offer: offer,
+        answer: outcome.answer,
+        offer: outcome.offer,
         state: c,
     }
 }

@@ -1,89 +1,123 @@
 // The state of a controller: set up, and its limits.
-ghost use Rattle.std.specs.Prelude.{◌≡◌, ◌&&◌, [], ◌∷◌, ◌*◌, ◌≤◌, eqb, drop};
+#![tactic(auto, unfolding(answer::specs::Ask::reply, crate::specs::States::controller_ok))]
+
+ghost use Rattle.std.specs.Prelude.{◌≡◌, ◌&&◌, ◌≤◌, drop};
 ghost use Rattle.answer.specs.Ask.{first_no};
-ghost use Rattle.answer.specs.Limits.{switch_count, most_undone};
+ghost use Rattle.answer.specs.Limits.{most_undone};
 ghost use Rattle.lists.specs.Arrays.{every};
 ghost use Rattle.lists.specs.Rising.{rising_from};
-ghost use Rattle.message.specs.Keys.{key_length};
 ghost use Rattle.controller.specs.Changes.{undone_empty, undone_in, numbers_of};
-ghost use Rattle.controller.specs.States.{unchanged, in_range, fresh, setup_of};
+ghost use Rattle.controller.specs.States.{unchanged, in_range, fresh, setup_of, state_questions};
 ghost use Rattle.controller.specs.States.{undone_ok, controller_ok};
-ghost use Rattle.controller.specs.Moving.{moved_by};
 
-use crate::changes::{is_undone, none_held, undone_empty};
-use crate::{Controller, Held, Moved, Offer, Progress, Reply, Undone, limits};
+use crate::{Controller, Held, Progress, Reply, Undone, limits};
 use playbook::Playbook;
-
-// An answer with a state, and nothing offered.
-fn replied(state: Controller, k: u8) -> Reply
-    ensures { result ≡ unchanged state k }
-{
-    Reply {
-        answer: k,
-        offer: Offer::Nothing,
-        state: state,
-    }
-}
-
-// An answer with the moving parts, and nothing offered.
-pub(crate) fn answering(p: Progress, k: u8) -> Moved
-    ensures { result ≡ record { answer = k; offer = Offer.Nothing; progress = p } }
-{
-    Moved {
-        answer: k,
-        offer: Offer::Nothing,
-        progress: p,
-    }
-}
-
-// An answer, and the moving parts of a state as they are.
-pub(crate) fn stays(c: Controller, k: u8) -> Moved
-    ensures { moved_by c result ≡ unchanged c k }
-{
-    let p = c.progress;
-    Moved {
-        answer: k,
-        offer: Offer::Nothing,
-        progress: p,
-    }
-}
-
-// That nothing is offered.
-pub(crate) fn no_offer() -> Offer
-    ensures { result ≡ Offer.Nothing }
-{
-    Offer::Nothing
-}
 
 // Whether a controller can have this id, and a domain so many controllers.
 fn in_range(id: u8, n: u8) -> bool
     ensures { result ≡ in_range id n }
 {
-    if n == 0 {
-        return false;
-    }
-    if limits::CONTROLLERS < n {
-        return false;
-    }
-    id < n
+    1 <= n && n <= limits::CONTROLLERS && id < n
 }
 
-// A controller to which nothing has happened.
-fn new(id: u8, n: u8, p: Playbook) -> Controller
-    ensures { result ≡ fresh id n p }
+impl Undone {
+    // Whether it is within its limits.
+    fn is_ok(&self, acknowledged: &[u32], last: u32) -> bool
+        ensures { result ≡ undone_ok acknowledged.now last self.now }
+    {
+        self.switch < limits::SWITCHES
+            && self.is_undone(acknowledged)
+            && self.number <= last
+            && 1 <= self.first
+            && self.first <= self.number
+            && flow::well_formed(self.rule)
+    }
+}
+
+// Whether undone changes are each within their limits and their numbers rise, from 1 on.
+fn changes_ok(changes: &[Undone], acknowledged: &[u32], last: u32) -> bool
+    ensures { result
+        ≡ (every (undone_ok acknowledged.now last) changes.now && rising_from 0 (numbers_of changes.now)) }
 {
-    let none = none_held();
-    let progress = Progress {
-        acknowledged: [0; limits::PLACES],
-        serials: [0; limits::PLACES],
-        last: 0,
-        undone: none,
-    };
-    Controller {
-        id: id,
-        n: n,
-        playbook: p,
-        progress: progress,
+    let mut before = 0;
+    for u in changes {
+        if !u.is_ok(acknowledged, last) || u.number <= before {
+            return false;
+        }
+        before = u.number;
+    }
+    true
+}
+
+impl Held {
+    // Whether the undone changes are each within their limits and their numbers rise, from 1 on, and the other places
+    // are empty.
+    fn is_ok(&self, acknowledged: &[u32], last: u32) -> bool
+        requires { self.now.count ≤ most_undone }
+        ensures { result
+            ≡ (every (undone_ok acknowledged.now last) (undone_in self.now)
+            && rising_from 0 (numbers_of (undone_in self.now))
+            && every undone_empty (drop self.now.count self.now.changes)) }
+    {
+        let (changes, unused) = self.changes.split_at(self.count);
+        changes_ok(changes, acknowledged, last) && unused.iter().all(|u| u.is_empty())
+    }
+}
+
+impl Controller {
+    // A controller to which nothing has happened.
+    fn new(id: u8, n: u8, playbook: Playbook) -> Controller
+        ensures { result ≡ fresh id n playbook }
+    {
+        Controller {
+            id,
+            n,
+            playbook,
+            progress: Progress {
+                acknowledged: [0; limits::PLACES],
+                serials: [0; limits::PLACES],
+                last: 0,
+                undone: Held::none(),
+            },
+        }
+    }
+
+    // An answer with the state, and nothing offered.
+    pub(crate) fn replied(self, answer: u8) -> Reply
+        ensures { result ≡ unchanged self answer }
+    {
+        Reply {
+            answer,
+            offer: None,
+            state: self,
+        }
+    }
+
+    // Question 20.
+    pub(crate) fn is_ok(&self) -> bool
+        ensures { result ≡ controller_ok self.now }
+    {
+        in_range(self.id, self.n)
+            && self.progress.undone.count <= limits::UNDONE
+            && self
+                .progress
+                .undone
+                .is_ok(&self.progress.acknowledged, self.progress.last)
+            && playbook::stored(self.playbook)
+    }
+
+    // Questions 20 and 21, of the state and the length of its key store: 0, or the number of the first whose answer is
+    // no.
+    pub(crate) fn state_question(&self, stored: usize) -> u8
+        ensures { result ≡ first_no (state_questions self.now stored) }
+    {
+        if !self.is_ok() {
+            return answer::LIMITS_BROKEN;
+        }
+        if stored != message::keys::LENGTH * limits::PLACES {
+            return answer::WRONG_KEY_STORE;
+        }
+        answer::DONE
     }
 }
 
@@ -93,99 +127,8 @@ pub fn setup(id: u8, n: u8, p: Playbook) -> Reply
     ensures { result ≡ setup_of id n p }
 {
     if in_range(id, n) {
-        let state = new(id, n, p);
-        replied(state, answer::DONE)
+        Controller::new(id, n, p).replied(answer::DONE)
     } else {
-        let none = playbook::empty();
-        let state = new(0, 0, none);
-        replied(state, answer::LIMITS_BROKEN)
+        Controller::new(0, 0, playbook::empty()).replied(answer::LIMITS_BROKEN)
     }
-}
-
-// The limits of one undone change.
-fn undone_ok(acknowledged: &[u32], last: u32, u: Undone) -> bool
-    ensures { result ≡ undone_ok acknowledged.now last u }
-{
-    if limits::SWITCHES <= u.switch {
-        return false;
-    }
-    if !is_undone(acknowledged, u.switch, u.number) {
-        return false;
-    }
-    if last < u.number {
-        return false;
-    }
-    if u.first == 0 {
-        return false;
-    }
-    if u.number < u.first {
-        return false;
-    }
-    let rule = u.rule;
-    flow::well_formed(rule)
-}
-
-// Whether the undone changes are each within their limits and their numbers rise, from 1 on, and the other places are
-// empty.
-fn held_ok(h: Held, acknowledged: [u32; limits::PLACES], last: u32) -> bool
-    requires { h.count ≤ most_undone }
-    ensures { result
-        ≡ (every (undone_ok acknowledged last) (undone_in h) && rising_from 0 (numbers_of (undone_in h))
-        && every undone_empty (drop h.count h.changes)) }
-{
-    let n = h.count;
-    let mut before: u32 = 0;
-    let mut i: usize = 0;
-    while i < n {
-        let u = h.changes[i];
-        if !undone_ok(&acknowledged, last, u) {
-            return false;
-        }
-        if u.number <= before {
-            return false;
-        }
-        before = u.number;
-        i += 1;
-    }
-    while i < limits::UNDONE {
-        let u = h.changes[i];
-        if !undone_empty(u) {
-            return false;
-        }
-        i += 1;
-    }
-    true
-}
-
-// Question 20.
-pub(crate) fn controller_ok(c: Controller) -> bool
-    ensures { result ≡ controller_ok c }
-{
-    if !in_range(c.id, c.n) {
-        return false;
-    }
-    let undone = c.progress.undone;
-    if limits::UNDONE < undone.count {
-        return false;
-    }
-    let acknowledged = c.progress.acknowledged;
-    if !held_ok(undone, acknowledged, c.progress.last) {
-        return false;
-    }
-    let p = c.playbook;
-    playbook::stored(p)
-}
-
-// Questions 20, whose answer is given, and 21, of the length of a key store: 0, or the number of the first whose answer
-// is no.
-pub(crate) fn state_question(ok: bool, stored: usize) -> u8
-    ensures { result ≡ first_no ((20, ok) ∷ (21, eqb stored (key_length * switch_count)) ∷ []) }
-{
-    if !ok {
-        return answer::LIMITS_BROKEN;
-    }
-    if stored != message::keys::LENGTH * limits::PLACES {
-        return answer::WRONG_KEY_STORE;
-    }
-    answer::DONE
 }

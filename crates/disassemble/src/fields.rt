@@ -1,126 +1,141 @@
-// Records, messages and their fields, printed. Each function prints the space before what it prints.
-use lists::{behind, byte_at, front};
+// Records, messages and their fields in words. Each begins with the space before it.
+use lists::{behind, byte_at};
 use message::layout;
-use notation::{Field, Giver, Name};
-use prose::{OUT, say, say_hex, say_number, say_prefix};
+use notation::{Field, Kind, Pair};
+use prose::Prefix;
+use std::fmt;
 
-pub(crate) fn say_name(out: &mut [u8; OUT], name: Name) {
-    let bytes = name.bytes;
-    let all: &[u8] = &bytes;
-    say(out, front(all, name.length));
-}
+/// Bytes, each as two hexadecimal digits.
+#[derive(Clone, Copy)]
+pub(crate) struct Bytes<'a>(pub(crate) &'a [u8]);
 
-fn say_byte(out: &mut [u8; OUT], b: u8) {
-    say(out, b" ");
-    say_hex(out, b);
-}
-
-pub(crate) fn say_bytes(out: &mut [u8; OUT], s: &[u8]) {
-    let mut i: usize = 0;
-    while i < s.len() {
-        say_byte(out, s[i]);
-        i += 1;
+impl fmt::Display for Bytes<'_> {
+    fn fmt<W: fmt::Write>(&self, f: &mut fmt::Formatter<W>) -> fmt::Result {
+        for byte in self.0 {
+            write!(f, " {byte:02X}")?;
+        }
+        Ok(())
     }
 }
 
-fn say_rule(out: &mut [u8; OUT], s: &[u8]) {
-    let prefix = lists::u32_of(byte_at(s, 0), byte_at(s, 1), byte_at(s, 2), byte_at(s, 3));
-    let port = lists::u16_of(byte_at(s, 5), byte_at(s, 6));
-    say(out, b" ");
-    say_prefix(out, prefix, byte_at(s, 4));
-    if port == 0 {
-        say(out, b" remove");
-    } else {
-        say(out, b" port ");
-        say_number(out, port as u64);
-    }
-}
+// The rule at the front.
+#[derive(Clone, Copy)]
+struct RuleFields<'a>(&'a [u8]);
 
-fn say_key(out: &mut [u8; OUT], controller: u8, switch: u8) {
-    say(out, b" key controller ");
-    say_number(out, controller as u64);
-    say(out, b" switch ");
-    say_number(out, switch as u64);
+impl fmt::Display for RuleFields<'_> {
+    fn fmt<W: fmt::Write>(&self, f: &mut fmt::Formatter<W>) -> fmt::Result {
+        let s = self.0;
+        let prefix = Prefix {
+            address: u32_of(s),
+            length: byte_at(s, 4),
+        };
+        match lists::u16_of(byte_at(s, 5), byte_at(s, 6)) {
+            0 => write!(f, " {prefix} remove"),
+            port => write!(f, " {prefix} port {port}"),
+        }
+    }
 }
 
 // The tag of a share, as its key where one gives it.
-fn say_tag(out: &mut [u8; OUT], share: &[u8]) {
-    match notation::giver_of(share) {
-        Giver::Nobody => {
-            say(out, b" tag");
-            say_bytes(out, behind(share, layout::SHARE_BODY));
+#[derive(Clone, Copy)]
+struct TagOf<'a>(&'a [u8]);
+
+impl fmt::Display for TagOf<'_> {
+    fn fmt<W: fmt::Write>(&self, f: &mut fmt::Formatter<W>) -> fmt::Result {
+        let share = self.0;
+        match notation::giver_of(share) {
+            Some(Pair { controller, switch }) => {
+                write!(f, " key controller {controller} switch {switch}")
+            }
+            None => write!(f, " tag{}", Bytes(behind(share, layout::SHARE_BODY))),
         }
-        Giver::Pair { controller, switch } => say_key(out, controller, switch),
     }
 }
 
-// The number at the front, as wide as its field is.
-fn number_of(field: Field, s: &[u8]) -> u64 {
-    if notation::width_of(field) == 1 {
-        byte_at(s, 0) as u64
-    } else {
-        lists::u32_of(byte_at(s, 0), byte_at(s, 1), byte_at(s, 2), byte_at(s, 3)) as u64
+fn u32_of(s: &[u8]) -> u32 {
+    lists::u32_of(byte_at(s, 0), byte_at(s, 1), byte_at(s, 2), byte_at(s, 3))
+}
+
+// A field that is a number, at the front and as wide as the field is, or what has a notation of its own. The tag is that
+// of the whole share.
+#[derive(Clone, Copy)]
+struct Plain<'a> {
+    field: Field,
+    share: &'a [u8],
+    s: &'a [u8],
+}
+
+impl fmt::Display for Plain<'_> {
+    fn fmt<W: fmt::Write>(&self, f: &mut fmt::Formatter<W>) -> fmt::Result {
+        match self.field {
+            Field::Message => Ok(()),
+            Field::Rule => write!(f, "{}", RuleFields(self.s)),
+            Field::Tag => write!(f, "{}", TagOf(self.share)),
+            field => {
+                let name = field.name().unwrap_or("");
+                if field.width() == 1 {
+                    write!(f, " {name} {}", byte_at(self.s, 0))
+                } else {
+                    write!(f, " {name} {}", u32_of(self.s))
+                }
+            }
+        }
     }
 }
 
-fn say_numbered(out: &mut [u8; OUT], field: Field, s: &[u8]) {
-    say(out, b" ");
-    say_name(out, notation::name_of(field));
-    say(out, b" ");
-    say_number(out, number_of(field, s));
-}
+// A message, as a share where it is one.
+#[derive(Clone, Copy)]
+struct MessageFields<'a>(&'a [u8]);
 
-// A field that is no message, from its bytes on; the tag is that of a whole share.
-fn say_plain(out: &mut [u8; OUT], field: Field, share: &[u8], s: &[u8]) {
-    match field {
-        Field::Nothing => say(out, b""),
-        Field::Message => say(out, b""),
-        Field::Rule => say_rule(out, s),
-        Field::Tag => say_tag(out, share),
-        _ => say_numbered(out, field, s),
+impl fmt::Display for MessageFields<'_> {
+    fn fmt<W: fmt::Write>(&self, f: &mut fmt::Formatter<W>) -> fmt::Result {
+        let share = self.0;
+        if byte_at(share, 0) != layout::SHARE {
+            return write!(f, " bytes{}", Bytes(share));
+        }
+        write!(f, " share")?;
+        let mut s = behind(share, 1);
+        for field in notation::share_fields() {
+            write!(
+                f,
+                "{}",
+                Plain {
+                    field: *field,
+                    share,
+                    s
+                }
+            )?;
+            s = behind(s, field.width());
+        }
+        Ok(())
     }
 }
 
-fn say_share_fields(out: &mut [u8; OUT], share: &[u8]) {
-    let mut rest = behind(share, 1);
-    let count = notation::count_of(layout::SHARE);
-    let mut i: u8 = 0;
-    while i < count {
-        let field = notation::field_of(layout::SHARE, i);
-        say_plain(out, field, share, rest);
-        let next = behind(rest, notation::width_of(field));
-        rest = next;
-        i += 1;
-    }
+/// The fields of a record.
+#[derive(Clone, Copy)]
+pub(crate) struct RecordFields<'a> {
+    pub(crate) kind: Kind,
+    pub(crate) record: &'a [u8],
 }
 
-fn say_message(out: &mut [u8; OUT], m: &[u8]) {
-    if byte_at(m, 0) == layout::SHARE {
-        say(out, b" share");
-        say_share_fields(out, m);
-    } else {
-        say(out, b" bytes");
-        say_bytes(out, m);
-    }
-}
-
-fn say_field(out: &mut [u8; OUT], field: Field, s: &[u8]) {
-    match field {
-        Field::Message => say_message(out, s),
-        _ => say_plain(out, field, s, s),
-    }
-}
-
-// The fields of a record.
-pub(crate) fn say_fields(out: &mut [u8; OUT], kind: u8, record: &[u8]) {
-    let mut rest = behind(record, 1);
-    let count = notation::count_of(kind);
-    let mut i: u8 = 0;
-    while i < count {
-        let field = notation::field_of(kind, i);
-        say_field(out, field, rest);
-        let next = behind(rest, notation::width_of(field));
-        rest = next;
-        i += 1;
+impl fmt::Display for RecordFields<'_> {
+    fn fmt<W: fmt::Write>(&self, f: &mut fmt::Formatter<W>) -> fmt::Result {
+        let mut s = behind(self.record, 1);
+        for field in self.kind.fields() {
+            match field {
+                Field::Message => write!(f, "{}", MessageFields(s))?,
+                field => write!(
+                    f,
+                    "{}",
+                    Plain {
+                        field: *field,
+                        share: s,
+                        s
+                    }
+                )?,
+            }
+            s = behind(s, field.width());
+        }
+        Ok(())
     }
 }

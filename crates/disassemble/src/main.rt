@@ -4,18 +4,19 @@
 
 mod fields;
 
-ghost use Rattle.std.specs.Prelude.{◌≡◌, ◌+◌, length};
+ghost use Rattle.std.specs.Prelude.{◌≡◌, ◌+◌, ◌≤◌, IfSome, length};
+ghost use Rattle.notation.specs.Kinds.{byte_of, record_size};
 ghost use Rattle.notation.specs.Limits.{input_limit};
 
-use fields::{say_bytes, say_fields, say_name};
+use fields::{Bytes, RecordFields};
+use notation::{INPUT, Kind, LINE};
+use prose::Out;
+use std::fmt;
+use std::fmt::Write;
 
 const STDIN_FILENO: i32 = 0;
 
 const STDERR_FILENO: i32 = 2;
-
-use lists::byte_at;
-use notation::{INPUT, LINE, kinds};
-use prose::{OUT, say, say_number};
 
 // The longest input, and one byte further to tell a longer one.
 const SPACE: usize = INPUT + 1;
@@ -26,88 +27,76 @@ fn for_input() -> [u8; SPACE]
     [0u8; SPACE]
 }
 
-// What stands before the name of a record: a blank line before a plan, and two spaces before a change of it.
-fn say_before(out: &mut [u8; OUT], kind: u8) {
-    match kind {
-        kinds::PLAN => say(out, b"\n"),
-        kinds::CHANGE => say(out, b"  "),
-        _ => say(out, b""),
-    }
-}
-
-// What ends its line: after the playbook's end a blank line too.
-fn say_after(out: &mut [u8; OUT], kind: u8) {
-    match kind {
-        kinds::END => say(out, b"\n\n"),
-        _ => say(out, b"\n"),
-    }
-}
-
-fn say_record(out: &mut [u8; OUT], kind: u8, record: &[u8]) {
-    say_before(out, kind);
-    say_name(out, notation::name_of_kind(kind));
-    say_fields(out, kind, record);
-    say_after(out, kind);
-}
-
-fn say_line_of_bytes(out: &mut [u8; OUT], s: &[u8]) {
-    say(out, b"bytes");
-    say_bytes(out, s);
-    say(out, b"\n");
+// A record on its line: a blank line stands before a plan, two spaces before a change of it, and a blank line after the
+// playbook's end.
+fn say_record(out: &mut Out, kind: Kind, record: &[u8]) -> fmt::Result {
+    let before = match kind {
+        Kind::Plan => "\n",
+        Kind::Change => "  ",
+        _ => "",
+    };
+    let after = if kind == Kind::End { "\n" } else { "" };
+    writeln!(
+        out,
+        "{before}{}{}{after}",
+        kind.name(),
+        RecordFields { kind, record }
+    )
 }
 
 // What is no record, in full lines but for the last.
-fn say_unnamed(out: &mut [u8; OUT], s: &[u8]) {
-    let mut rest = s;
-    while LINE < rest.len() {
-        say_line_of_bytes(out, &rest[0..LINE]);
-        rest = &rest[LINE..];
+fn say_unnamed(out: &mut Out, s: &[u8]) -> fmt::Result {
+    for line in s.chunks(LINE) {
+        writeln!(out, "bytes{}", Bytes(line))?;
     }
-    say_line_of_bytes(out, rest);
+    Ok(())
 }
 
-fn say_controllers(out: &mut [u8; OUT], n: u8) {
-    say(out, b"controllers ");
-    say_number(out, n as u64);
-    say(out, b"\n");
+// The kind of the record at the front, which is whole.
+fn whole(s: &[u8]) -> Option<Kind>
+    ensures { IfSome result (λ kind. record_size (byte_of kind) ≤ length s.now) }
+{
+    let kind = Kind::try_from(*s.first()?).ok()?;
+    if kind.size() <= s.len() {
+        Some(kind)
+    } else {
+        None
+    }
 }
 
 // Record after record, up to what is none.
-fn say_records(out: &mut [u8; OUT], s: &[u8]) {
+fn say_records(out: &mut Out, s: &[u8]) -> fmt::Result {
     let mut rest = s;
-    while 0 < rest.len() {
-        let kind = byte_at(rest, 0);
-        let size = notation::size_of(kind);
-        if size == 0 {
-            say_unnamed(out, rest);
-            return;
+    while let Some(kind) = whole(rest) {
+        let (record, behind) = rest.split_at(kind.size());
+        say_record(out, kind, record)?;
+        rest = behind;
+    }
+    say_unnamed(out, rest)
+}
+
+fn disassemble(out: &mut Out, input: &[u8]) -> fmt::Result {
+    match input {
+        [] => Ok(()),
+        [controllers, records @ ..] => {
+            writeln!(out, "controllers {controllers}")?;
+            say_records(out, records)
         }
-        if rest.len() < size {
-            say_unnamed(out, rest);
-            return;
-        }
-        say_record(out, kind, &rest[0..size]);
-        rest = &rest[size..];
     }
 }
 
-fn disassemble(out: &mut [u8; OUT], input: &[u8]) {
-    if 0 < input.len() {
-        say_controllers(out, byte_at(input, 0));
-        say_records(out, &input[1..]);
-    }
-}
-
-fn main() {
-    let mut out = [0u8; OUT];
+fn main() -> fmt::Result {
+    let mut out = Out::new();
     let mut space = for_input();
     let n = io::read_full(STDIN_FILENO, &mut space);
-    if n == SPACE {
+    let said = if n == SPACE {
         io::write_all(STDERR_FILENO, b"expected at most ");
         io::print_decimal(STDERR_FILENO, INPUT as u64);
         io::write_all(STDERR_FILENO, b" bytes\n");
+        Ok(())
     } else {
-        disassemble(&mut out, &space[..n]);
-    }
-    prose::say_end(&mut out);
+        disassemble(&mut out, &space[..n])
+    };
+    out.end();
+    said
 }

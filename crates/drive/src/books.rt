@@ -1,95 +1,77 @@
-// Playbooks, read and printed.
-use cases::{say, say_byte, say_size, say_whole_rule};
+// Playbooks, read and printed. Each begins with the space before it.
+use cases::WholeRule;
 use playbook::{Change, Plan, Playbook};
-use prose::OUT;
+use prose::Out;
+use std::fmt;
+use std::fmt::Write;
 
-fn say_plan(out: &mut [u8; OUT], i: usize, q: Plan) {
-    say(out, b" plan");
-    say_size(out, i);
-    say_byte(out, q.switch);
-    say_byte(out, q.cause);
-    say_size(out, q.first);
-    say_size(out, q.count);
+// A plan of an unused place.
+fn plan_empty(q: &Plan) -> bool {
+    q.switch == 0 && q.cause == 0 && q.first == 0 && q.count == 0
 }
 
-fn say_plans(out: &mut [u8; OUT], book: Playbook) {
-    let plans = book.plans;
-    let mut i: usize = 0;
-    while i < playbook::limits::PLANS {
-        let q = plans[i];
-        if q.switch != 0 || q.cause != 0 || q.first != 0 || q.count != 0 {
-            say_plan(out, i, q);
+// A change of an unused place.
+fn change_empty(x: &Change) -> bool {
+    x.flow == 0 && x.switch == 0 && flow::rule_empty(x.rule)
+}
+
+/// How many plans and changes a playbook has.
+#[derive(Clone, Copy)]
+pub(crate) struct Counts<'a>(pub(crate) &'a Playbook);
+
+impl fmt::Display for Counts<'_> {
+    fn fmt<W: fmt::Write>(&self, f: &mut fmt::Formatter<W>) -> fmt::Result {
+        write!(f, " book {} {}", self.0.planned, self.0.listed)
+    }
+}
+
+/// A playbook, but for its unused places.
+#[derive(Clone, Copy)]
+pub(crate) struct Book<'a>(pub(crate) &'a Playbook);
+
+impl fmt::Display for Book<'_> {
+    fn fmt<W: fmt::Write>(&self, f: &mut fmt::Formatter<W>) -> fmt::Result {
+        write!(f, "{}", Counts(self.0))?;
+        for (i, q) in self.0.plans.iter().enumerate() {
+            if !plan_empty(q) {
+                write!(
+                    f,
+                    " plan {i} {} {} {} {}",
+                    q.switch, q.cause, q.first, q.count
+                )?;
+            }
         }
-        i += 1;
-    }
-}
-
-fn change_empty(x: Change) -> bool {
-    let rule = x.rule;
-    if x.flow == 0 && x.switch == 0 {
-        flow::rule_empty(rule)
-    } else {
-        false
-    }
-}
-
-fn say_change(out: &mut [u8; OUT], i: usize, x: Change) {
-    let rule = x.rule;
-    say(out, b" change");
-    say_size(out, i);
-    say_byte(out, x.flow);
-    say_byte(out, x.switch);
-    say_whole_rule(out, rule);
-}
-
-fn say_changes(out: &mut [u8; OUT], book: Playbook) {
-    let changes = book.changes;
-    let mut i: usize = 0;
-    while i < playbook::limits::CHANGES {
-        let x = changes[i];
-        if !change_empty(x) {
-            say_change(out, i, x);
+        for (i, x) in self.0.changes.iter().enumerate() {
+            if !change_empty(x) {
+                write!(
+                    f,
+                    " change {i} {} {} {}",
+                    x.flow,
+                    x.switch,
+                    WholeRule(x.rule)
+                )?;
+            }
         }
-        i += 1;
+        Ok(())
     }
 }
 
-pub(crate) fn say_counts(out: &mut [u8; OUT], book: Playbook) {
-    say(out, b" book");
-    say_size(out, book.planned);
-    say_size(out, book.listed);
-}
-
-pub(crate) fn say_book(out: &mut [u8; OUT], book: Playbook) {
-    say_counts(out, book);
-    say_plans(out, book);
-    say_changes(out, book);
-}
-
-fn read_whole(out: &mut [u8; OUT], s: &[u8]) -> Playbook {
+// The playbook of all the bytes.
+pub(crate) fn read_whole(out: &mut Out, s: &[u8]) -> Result<Playbook, fmt::Error> {
     let outcome = playbook::read(s);
-    let book = outcome.playbook;
-    say(out, b" read");
-    say_byte(out, outcome.answer);
-    say_book(out, book);
-    book
+    write!(out, " read {}{}", outcome.answer, Book(&outcome.playbook))?;
+    Ok(outcome.playbook)
 }
 
-fn read_first(out: &mut [u8; OUT], s: &[u8]) -> Playbook {
+// The playbook of the bytes up to its end record.
+pub(crate) fn read_first(out: &mut Out, s: &[u8]) -> Result<Playbook, fmt::Error> {
     let outcome = playbook::read_first(s);
-    let book = outcome.playbook;
-    say(out, b" read first");
-    say_byte(out, outcome.answer);
-    say_size(out, outcome.used);
-    say_book(out, book);
-    book
-}
-
-// The playbook of the bytes: of all of them, or up to its end record.
-pub(crate) fn read(out: &mut [u8; OUT], letter: u8, s: &[u8]) -> Playbook {
-    if letter == b'b' {
-        read_whole(out, s)
-    } else {
-        read_first(out, s)
-    }
+    write!(
+        out,
+        " read first {} {}{}",
+        outcome.answer,
+        outcome.used,
+        Book(&outcome.playbook)
+    )?;
+    Ok(outcome.playbook)
 }

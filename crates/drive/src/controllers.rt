@@ -1,299 +1,233 @@
 // The calls at a controller.
-use crate::stores::Store;
-use crate::{books, frames, stores};
-use answer::limits;
-use cases::{action_of, say, say_byte, say_size, say_whole_rule, say_word, u16_at, u32_at};
-use controller::{Controller, Held, Offer, Progress, Reply, Undone};
+use crate::books::{Book, Counts};
+use crate::frames;
+use crate::places::put;
+use cases::{Hex, WholeRule, action_of, u16_at, u32_at};
+use controller::{Controller, Held, Reply, Undone};
 use flow::Rule;
 use lists::byte_at;
 use playbook::{Change, Plan, Playbook};
-use prose::OUT;
+use prose::Out;
+use std::fmt;
+use std::fmt::Write;
 
-fn say_undone(out: &mut [u8; OUT], i: usize, u: Undone) {
-    let rule = u.rule;
-    say(out, b" undone");
-    say_size(out, i);
-    say_word(out, u.number);
-    say_word(out, u.first);
-    say_byte(out, u.flow);
-    say_byte(out, u.switch);
-    say_whole_rule(out, rule);
+#[derive(Clone, Copy)]
+pub(crate) enum Call {
+    SetUp,
+    Receive,
+    Decide,
+    Write,
+    ShowBook,
+    Alter,
 }
 
-fn undone_empty(u: Undone) -> bool {
-    let rule = u.rule;
-    if u.number == 0 && u.first == 0 && u.flow == 0 && u.switch == 0 {
-        flow::rule_empty(rule)
-    } else {
-        false
-    }
-}
-
-fn say_held(out: &mut [u8; OUT], held: Held) {
-    let changes = held.changes;
-    say(out, b" count");
-    say_size(out, held.count);
-    let mut i: usize = 0;
-    while i < limits::UNDONE {
-        let u = changes[i];
-        if !undone_empty(u) {
-            say_undone(out, i, u);
-        }
-        i += 1;
-    }
+// An undone change of an unused place.
+fn undone_empty(u: &Undone) -> bool {
+    u.number == 0 && u.first == 0 && u.flow == 0 && u.switch == 0 && flow::rule_empty(u.rule)
 }
 
 // The numbers above 0, each after its place.
-fn say_numbers(out: &mut [u8; OUT], name: &[u8], numbers: [u32; limits::OF_SWITCHES]) {
-    let mut i: usize = 0;
-    while i < limits::OF_SWITCHES {
-        let k = numbers[i];
-        if k != 0 {
-            say(out, name);
-            say_size(out, i);
-            say_word(out, k);
+#[derive(Clone, Copy)]
+struct Numbers<'a> {
+    name: &'static str,
+    numbers: &'a [u32],
+}
+
+impl fmt::Display for Numbers<'_> {
+    fn fmt<W: fmt::Write>(&self, f: &mut fmt::Formatter<W>) -> fmt::Result {
+        for (i, k) in self.numbers.iter().enumerate() {
+            if *k != 0 {
+                write!(f, " {} {i} {k}", self.name)?;
+            }
         }
-        i += 1;
+        Ok(())
     }
 }
 
-fn say_state(out: &mut [u8; OUT], c: Controller) {
-    let held = c.progress.undone;
-    let book = c.playbook;
-    let acknowledged = c.progress.acknowledged;
-    let serials = c.progress.serials;
-    say(out, b" state");
-    say_byte(out, c.id);
-    say_byte(out, c.n);
-    say_word(out, c.progress.last);
-    books::say_counts(out, book);
-    say_numbers(out, b" acknowledged", acknowledged);
-    say_numbers(out, b" serial", serials);
-    say_held(out, held);
-}
+#[derive(Clone, Copy)]
+struct HeldFields<'a>(&'a Held);
 
-fn say_offer(out: &mut [u8; OUT], offer: Offer) {
-    match offer {
-        Offer::Nothing => say(out, b""),
-        Offer::Event {
-            switch,
-            serial,
-            cause,
-        } => {
-            say(out, b" offered");
-            say_byte(out, switch);
-            say_word(out, serial);
-            say_byte(out, cause);
+impl fmt::Display for HeldFields<'_> {
+    fn fmt<W: fmt::Write>(&self, f: &mut fmt::Formatter<W>) -> fmt::Result {
+        write!(f, " count {}", self.0.count)?;
+        for (i, u) in self.0.changes.iter().enumerate() {
+            if !undone_empty(u) {
+                write!(
+                    f,
+                    " undone {i} {} {} {} {} {}",
+                    u.number,
+                    u.first,
+                    u.flow,
+                    u.switch,
+                    WholeRule(u.rule)
+                )?;
+            }
         }
+        Ok(())
     }
 }
 
-// The answer, what is offered and the state, which is what the next call gets.
-fn replied(out: &mut [u8; OUT], r: Reply) -> Controller {
-    let state = r.state;
-    let offer = r.offer;
-    say_byte(out, r.answer);
-    say_offer(out, offer);
-    say_state(out, state);
-    state
+// The answer, what is offered and the state.
+#[derive(Clone, Copy)]
+struct ReplyFields<'a>(&'a Reply);
+
+impl fmt::Display for ReplyFields<'_> {
+    fn fmt<W: fmt::Write>(&self, f: &mut fmt::Formatter<W>) -> fmt::Result {
+        let c = &self.0.state;
+        write!(f, " {}", self.0.answer)?;
+        if let Some(event) = self.0.offer {
+            write!(
+                f,
+                " offered {} {} {}",
+                event.switch, event.serial, event.cause
+            )?;
+        }
+        write!(
+            f,
+            " state {} {} {}{}",
+            c.id,
+            c.n,
+            c.progress.last,
+            Counts(&c.playbook)
+        )?;
+        let acknowledged = Numbers {
+            name: "acknowledged",
+            numbers: &c.progress.acknowledged,
+        };
+        let serials = Numbers {
+            name: "serial",
+            numbers: &c.progress.serials,
+        };
+        write!(
+            f,
+            "{acknowledged}{serials}{}",
+            HeldFields(&c.progress.undone)
+        )
+    }
 }
 
-fn set_up(out: &mut [u8; OUT], book: Playbook, body: &[u8]) -> Controller {
-    say(out, b" setup");
-    replied(
-        out,
-        controller::setup(byte_at(body, 0), byte_at(body, 1), book),
-    )
+fn set_up(out: &mut Out, book: Playbook, body: &[u8]) -> Result<Controller, fmt::Error> {
+    let r = controller::setup(byte_at(body, 0), byte_at(body, 1), book);
+    write!(out, " setup{}", ReplyFields(&r))?;
+    Ok(r.state)
 }
 
-fn receive(out: &mut [u8; OUT], c: Controller, keys: &[u8], body: &[u8]) -> Controller {
-    say(out, b" received");
-    replied(out, controller::receive(c, keys, body))
+fn receive(
+    out: &mut Out,
+    c: Controller,
+    keys: &[u8],
+    body: &[u8],
+) -> Result<Controller, fmt::Error> {
+    let r = controller::receive(c, keys, body);
+    write!(out, " received{}", ReplyFields(&r))?;
+    Ok(r.state)
 }
 
-fn decide(out: &mut [u8; OUT], c: Controller, body: &[u8]) -> Controller {
-    say(out, b" decided");
-    replied(
-        out,
-        controller::decide(c, byte_at(body, 0), u32_at(body, 1), byte_at(body, 5)),
-    )
+fn decide(out: &mut Out, c: Controller, body: &[u8]) -> Result<Controller, fmt::Error> {
+    let r = controller::decide(c, byte_at(body, 0), u32_at(body, 1), byte_at(body, 5));
+    write!(out, " decided{}", ReplyFields(&r))?;
+    Ok(r.state)
 }
 
-fn write(out: &mut [u8; OUT], c: Controller, keys: &[u8], body: &[u8]) -> Controller {
+fn write(out: &mut Out, c: Controller, keys: &[u8], body: &[u8]) -> Result<Controller, fmt::Error> {
     let switch = byte_at(body, 1);
     let at = frames::offset_of(body);
     let n = frames::lent_of(body, frames::SIZE);
-    let mut frame = [0xeeu8; frames::SIZE];
-    let r = controller::write_share(c, keys, switch, &mut frame[0..n], at);
-    say(out, b" written");
-    let next = replied(out, r);
-    frames::say_frame(out, &frame);
-    next
+    let mut frame = [0xee; frames::SIZE];
+    let r = controller::write_share(c, keys, switch, &mut frame[..n], at);
+    write!(out, " written{} frame {}", ReplyFields(&r), Hex(&frame))?;
+    Ok(r.state)
 }
 
-fn show_book(out: &mut [u8; OUT], c: Controller) -> Controller {
-    let book = c.playbook;
-    say(out, b" holds");
-    books::say_book(out, book);
-    c
+fn show_book(out: &mut Out, c: Controller) -> Result<Controller, fmt::Error> {
+    write!(out, " holds{}", Book(&c.playbook))?;
+    Ok(c)
 }
 
 fn rule_at(b: &[u8], place: u8) -> Rule {
-    let p = frames::at_most(place as usize, 200) as u8;
-    let action = action_of(byte_at(b, (p + 5) as usize), u16_at(b, p + 6));
+    let p = place.min(200);
     Rule {
         prefix: u32_at(b, p),
         length: byte_at(b, (p + 4) as usize),
-        action: action,
+        action: action_of(byte_at(b, (p + 5) as usize), u16_at(b, p + 6)),
     }
 }
 
-fn with_progress(c: Controller, p: Progress) -> Controller {
-    let mut next = c;
-    next.progress = p;
-    next
-}
-
-fn with_held(c: Controller, held: Held) -> Controller {
-    let mut p = c.progress;
-    p.undone = held;
-    with_progress(c, p)
-}
-
-fn with_undone(c: Controller, i: usize, b: &[u8]) -> Controller {
-    let rule = rule_at(b, 12);
-    let u = Undone {
+fn undone_in(b: &[u8]) -> Undone {
+    Undone {
         number: u32_at(b, 2),
         first: u32_at(b, 6),
         flow: byte_at(b, 10),
         switch: byte_at(b, 11),
-        rule: rule,
-    };
-    let mut held = c.progress.undone;
-    if i < limits::UNDONE {
-        held.changes[i] = u;
+        rule: rule_at(b, 12),
     }
-    with_held(c, held)
 }
 
-fn with_count(c: Controller, count: usize) -> Controller {
-    let mut held = c.progress.undone;
-    held.count = count;
-    with_held(c, held)
-}
-
-fn with_plan(c: Controller, i: usize, b: &[u8]) -> Controller {
-    let q = Plan {
+fn plan_in(b: &[u8]) -> Plan {
+    Plan {
         switch: byte_at(b, 2),
         cause: byte_at(b, 3),
         first: u16_at(b, 4) as usize,
         count: byte_at(b, 6) as usize,
-    };
-    let mut book = c.playbook;
-    if i < playbook::limits::PLANS {
-        book.plans[i] = q;
     }
-    let mut next = c;
-    next.playbook = book;
-    next
 }
 
-fn with_change(c: Controller, b: &[u8]) -> Controller {
-    let i = u16_at(b, 1) as usize;
-    let rule = rule_at(b, 5);
-    let x = Change {
+fn change_in(b: &[u8]) -> Change {
+    Change {
         flow: byte_at(b, 3),
         switch: byte_at(b, 4),
-        rule: rule,
-    };
-    let mut book = c.playbook;
-    if i < playbook::limits::CHANGES {
-        book.changes[i] = x;
+        rule: rule_at(b, 5),
     }
-    let mut next = c;
-    next.playbook = book;
-    next
 }
 
-// How many plans and changes of the playbook are in use.
-fn with_counts(c: Controller, b: &[u8]) -> Controller {
-    let mut book = c.playbook;
-    book.planned = byte_at(b, 1) as usize;
-    book.listed = u16_at(b, 2) as usize;
-    let mut next = c;
-    next.playbook = book;
-    next
-}
-
-fn with_last(c: Controller, k: u32) -> Controller {
-    let mut p = c.progress;
-    p.last = k;
-    with_progress(c, p)
-}
-
-fn with_acknowledged(c: Controller, i: usize, k: u32) -> Controller {
-    let mut p = c.progress;
-    if i < limits::OF_SWITCHES {
-        p.acknowledged[i] = k;
-    }
-    with_progress(c, p)
-}
-
-fn with_serial(c: Controller, i: usize, k: u32) -> Controller {
-    let mut p = c.progress;
-    if i < limits::OF_SWITCHES {
-        p.serials[i] = k;
-    }
-    with_progress(c, p)
-}
-
-// The state with one field altered, by its number.
+// The state with one field altered, by its number in tests/DRIVE.md.
 fn altered(c: Controller, b: &[u8]) -> Controller {
     let mut next = c;
     let x = byte_at(b, 1);
     let i = x as usize;
     match byte_at(b, 0) {
-        0 => {
-            next.id = x;
-            next
+        0 => next.id = x,
+        1 => next.n = x,
+        2 => next.progress.last = u32_at(b, 1),
+        3 => put(&mut next.progress.acknowledged, i, u32_at(b, 2)),
+        4 => put(&mut next.progress.serials, i, u32_at(b, 2)),
+        5 => put(&mut next.progress.undone.changes, i, undone_in(b)),
+        6 => next.progress.undone.count = i,
+        7 => {
+            next.playbook.planned = i;
+            next.playbook.listed = u16_at(b, 2) as usize;
         }
-        1 => {
-            next.n = x;
-            next
-        }
-        2 => with_last(c, u32_at(b, 1)),
-        3 => with_acknowledged(c, i, u32_at(b, 2)),
-        4 => with_serial(c, i, u32_at(b, 2)),
-        5 => with_undone(c, i, b),
-        6 => with_count(c, i),
-        7 => with_counts(c, b),
-        8 => with_plan(c, i, b),
-        9 => with_change(c, b),
-        _ => c,
+        8 => put(&mut next.playbook.plans, i, plan_in(b)),
+        9 => put(
+            &mut next.playbook.changes,
+            u16_at(b, 1) as usize,
+            change_in(b),
+        ),
+        _ => {}
     }
+    next
 }
 
-fn alter(out: &mut [u8; OUT], c: Controller, body: &[u8]) -> Controller {
-    say(out, b" altered");
-    altered(c, body)
+fn alter(out: &mut Out, c: Controller, body: &[u8]) -> Result<Controller, fmt::Error> {
+    write!(out, " altered")?;
+    Ok(altered(c, body))
 }
 
-pub(crate) fn call(
-    out: &mut [u8; OUT],
+// A call made at a controller, and the state after it; a setup takes the playbook.
+pub(crate) fn made(
+    out: &mut Out,
     c: Controller,
     book: Playbook,
-    store: Store,
-    letter: u8,
+    keys: &[u8],
+    call: Call,
     body: &[u8],
-) -> Controller {
-    let bytes = store.bytes;
-    let keys = lists::front(&bytes[..], store.length);
-    match letter {
-        b's' => set_up(out, book, body),
-        b'm' => receive(out, c, keys, body),
-        b'd' => decide(out, c, body),
-        b'w' => write(out, c, keys, body),
-        b'p' => show_book(out, c),
-        _ => alter(out, c, body),
+) -> Result<Controller, fmt::Error> {
+    match call {
+        Call::SetUp => set_up(out, book, body),
+        Call::Receive => receive(out, c, keys, body),
+        Call::Decide => decide(out, c, body),
+        Call::Write => write(out, c, keys, body),
+        Call::ShowBook => show_book(out, c),
+        Call::Alter => alter(out, c, body),
     }
 }

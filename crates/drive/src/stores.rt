@@ -3,27 +3,28 @@ const SPACE: usize = 544;
 
 #[derive(Clone, Copy)]
 pub(crate) struct Store {
-    pub(crate) bytes: [u8; SPACE],
-    pub(crate) length: usize,
+    bytes: [u8; SPACE],
+    length: usize,
 }
 
-pub(crate) fn empty() -> Store {
-    Store {
-        bytes: [0; SPACE],
-        length: 0,
+impl Store {
+    pub(crate) fn empty() -> Self {
+        Store {
+            bytes: [0; SPACE],
+            length: 0,
+        }
     }
-}
 
-// The bytes, or as many of them as there is space for.
-pub(crate) fn store_of(s: &[u8]) -> Store {
-    let mut bytes = [0u8; SPACE];
-    let mut i: usize = 0;
-    while i < SPACE && i < s.len() {
-        bytes[i] = s[i];
-        i += 1;
+    // The bytes, or as many of them as there is space for.
+    pub(crate) fn of(s: &[u8]) -> Self {
+        let length = s.len().min(SPACE);
+        let mut bytes = [0; SPACE];
+        bytes[..length].copy_from_slice(&s[..length]);
+        Store { bytes, length }
     }
-    Store {
-        bytes: bytes,
-        length: i,
+
+    // The bytes in use.
+    pub(crate) fn in_use(&self) -> &[u8] {
+        lists::front(&self.bytes, self.length)
     }
 }

@@ -1,115 +1,120 @@
 // The agreed changes: those that the playbook plans for the agreed decisions, numbered from 1 in order. One is made if
 // some record was answered 1 with its number, switch and rule.
-use crate::codes::code_of;
-use crate::decisions;
-use crate::decisions::{LISTS, ROW};
-use playbook::{Change, Playbook, limits};
-use rehearsal::{DEEDS, Deed};
+ghost use Rattle.std.specs.Prelude.{◌≡◌, ◌-◌};
+ghost use Rattle.std.specs.Iterator.{at_most};
 
-// How many records were answered 1, and for each of at most 4,096 its ordinal, its number, and its switch and rule.
-pub(crate) const APPLIED: usize = 12289;
+use crate::decisions::{Decision, Decisions};
+use crate::plans::changes_of;
+use flow::Rule;
+use playbook::{Change, Playbook};
+use rehearsal::Deed;
+use std::{fmt, slice};
+use story::ChangeWords;
 
 // No list has more changes: 1,024 decisions, with 32 changes each.
-pub(crate) const MOST: u64 = 32768;
+const MOST: u32 = 32768;
 
-// How many changes are agreed, and for each its switch and rule.
-pub(crate) const NUMBERED: usize = 32769;
-
-fn add_applied(applied: &mut [u64; APPLIED], ordinal: u64, number: u64, code: u64) {
-    let count = applied[0];
-    if count < 4096 {
-        applied[0] = count + 1;
-        applied[3 * (count as usize) + 1] = ordinal;
-        applied[3 * (count as usize) + 2] = number;
-        applied[3 * (count as usize) + 3] = code;
-    }
+/// A numbered change of a rule on a switch.
+#[derive(Clone, Copy)]
+pub(crate) struct Numbered {
+    number: u32,
+    switch: u8,
+    rule: Rule,
 }
 
-// The records answered 1, after a record; its place is counted from 0.
-pub(crate) fn note(applied: &mut [u64; APPLIED], place: usize, deed: Deed) {
-    let slot = deed.wish.slot;
-    let rule = slot.rule;
-    if deed.answer == answer::APPLIED {
-        add_applied(
-            applied,
-            (place % DEEDS) as u64 + 1,
-            slot.number as u64,
-            code_of(deed.switch, rule),
-        );
-    }
-}
-
-fn add(numbered: &mut [u64; NUMBERED], change: Change) {
-    let rule = change.rule;
-    let count = numbered[0];
-    if count < MOST {
-        numbered[0] = count + 1;
-        numbered[count as usize + 1] = code_of(change.switch, rule);
-    }
-}
-
-// So many changes from a place on.
-fn add_changes(numbered: &mut [u64; NUMBERED], book: Playbook, first: usize, count: usize) {
-    let changes = book.changes;
-    let mut i: usize = 0;
-    while i < limits::CHANGES_OF_PLAN {
-        if i < count {
-            add(
-                numbered,
-                changes[(first % limits::CHANGES + i) % limits::CHANGES],
-            );
+impl Numbered {
+    /// The change that a record is about.
+    pub(crate) fn of(deed: &Deed) -> Numbered {
+        let slot = deed.wish.slot;
+        Numbered {
+            number: slot.number,
+            switch: deed.switch,
+            rule: slot.rule,
         }
-        i += 1;
+    }
+
+    pub(crate) fn is_same(self, other: Numbered) -> bool {
+        self.number == other.number
+            && self.switch == other.switch
+            && flow::same_rule(self.rule, other.rule)
+    }
+
+    /// Whether a record made this change.
+    pub(crate) fn is_made_by(self, deed: &Deed) -> bool {
+        deed.answer == answer::APPLIED && self.is_same(Numbered::of(deed))
     }
 }
 
-fn add_decision(numbered: &mut [u64; NUMBERED], book: Playbook, code: u64) {
-    let plan = playbook::plan_of(book, decisions::switch_of(code), decisions::cause_of(code));
-    add_changes(numbered, book, plan.first, plan.count);
+impl fmt::Display for Numbered {
+    fn fmt<W: fmt::Write>(&self, f: &mut fmt::Formatter<W>) -> fmt::Result {
+        let change = ChangeWords {
+            number: self.number,
+            rule: self.rule,
+        };
+        write!(f, "{change}, on switch {}", self.switch)
+    }
 }
 
-// The changes of a controller's decisions.
-pub(crate) fn number_changes(
-    numbered: &mut [u64; NUMBERED],
-    lists: &[u64; LISTS],
-    controller: u8,
-    book: Playbook,
-) {
-    let length = decisions::length_of(lists, controller);
-    let mut k: usize = 1;
-    while k < ROW {
-        if k as u64 <= length {
-            add_decision(numbered, book, decisions::entry(lists, controller, k));
+// The changes that a playbook plans for a decision.
+fn planned_for(book: &Playbook, decision: Decision) -> &[Change] {
+    book.plans
+        .iter()
+        .take(book.planned)
+        .find(|plan| plan.switch == decision.switch && plan.cause == decision.cause)
+        .map_or(&[], |plan| changes_of(book, plan))
+}
+
+/// The changes that a playbook plans for decisions, numbered.
+#[derive(Drop)]
+pub(crate) struct AgreedChanges<'a> {
+    book: &'a Playbook,
+    decisions: Decisions<'a>,
+    planned: slice::Iter<'a, Change>,
+    given: u32,
+}
+
+impl<'a> AgreedChanges<'a> {
+    pub(crate) fn new(book: &'a Playbook, decisions: Decisions<'a>) -> AgreedChanges<'a> {
+        AgreedChanges {
+            book,
+            decisions,
+            planned: [].iter(),
+            given: 0,
         }
-        k += 1;
     }
-}
 
-pub(crate) fn is_agreed(numbered: &[u64; NUMBERED], number: u64, code: u64) -> bool {
-    if number == 0 || numbered[0] < number {
-        return false;
-    }
-    numbered[(number % (MOST + 1)) as usize] == code
-}
-
-fn mark(made: &mut [u8; NUMBERED], numbered: &[u64; NUMBERED], number: u64, code: u64) {
-    if is_agreed(numbered, number, code) {
-        made[(number % (MOST + 1)) as usize] = 1;
-    }
-}
-
-// Marks the agreed changes that were made.
-pub(crate) fn mark_made(
-    made: &mut [u8; NUMBERED],
-    numbered: &[u64; NUMBERED],
-    applied: &[u64; APPLIED],
-) {
-    let count = applied[0];
-    let mut i: usize = 0;
-    while i < DEEDS {
-        if (i as u64) < count {
-            mark(made, numbered, applied[3 * i + 2], applied[3 * i + 3]);
+    // The next change of the decision at hand, or the first one of a later decision.
+    fn next_planned(&mut self) -> Option<&'a Change>
+        ensures { self.new.given ≡ self.old.given }
+    {
+        if let Some(change) = self.planned.next() {
+            return Some(change);
         }
-        i += 1;
+        let book = self.book;
+        let changes = self.decisions.find_map(|decision| {
+            let changes = planned_for(book, decision);
+            (!changes.is_empty()).then_some(changes)
+        })?;
+        self.planned = changes.iter();
+        self.planned.next()
+    }
+}
+
+impl Iterator for AgreedChanges<'_> {
+    type Item = Numbered;
+
+    ghost remaining = { λ s. at_most (32768 - s.given) };
+
+    fn next(&mut self) -> Option<Numbered> {
+        if MOST <= self.given {
+            return None;
+        }
+        let change = self.next_planned()?;
+        self.given += 1;
+        Some(Numbered {
+            number: self.given,
+            switch: change.switch,
+            rule: change.rule,
+        })
     }
 }

@@ -1,210 +1,150 @@
 // The ends after the last record: each switch's table and held shares, each controller's undone changes.
-use crate::sets::ENDS;
-use crate::{sets, untold};
+use crate::ranges::{Named, chosen};
+use crate::untold;
 use answer::limits;
-use controller::{Controller, Held, Undone};
-use flow::{Entry, Table};
-use prose::{OUT, say, say_number};
+use controller::Controller;
+use flow::Table;
+use prose::Out;
 use rehearsal::World;
-use story::{say_change, say_count, say_name};
-use switch::{Slot, Switch};
+use std::fmt;
+use std::fmt::Write;
+use story::{ChangeWords, Position, RuleWords, UndoneCount};
+use switch::Switch;
 
-fn say_entry(out: &mut [u8; OUT], entry: Entry) {
-    say(out, b"  ");
-    story::say_rule(out, flow::rule_of(entry.prefix, entry.length, entry.port));
-    say(out, b"\n");
-}
-
-fn say_table(out: &mut [u8; OUT], table: Table) {
-    let entries = table.entries;
-    let count = table.count;
-    let mut i: usize = 0;
-    while i < limits::ENTRIES {
-        if i < count {
-            say_entry(out, entries[i]);
-        }
-        i += 1;
+fn say_table(out: &mut Out, table: &Table) -> fmt::Result {
+    for entry in table.entries.iter().take(table.count) {
+        let rule = flow::rule_of(entry.prefix, entry.length, entry.port);
+        writeln!(out, "  {}", RuleWords(rule))?;
     }
+    Ok(())
 }
 
-fn say_slot(out: &mut [u8; OUT], controller: u8, slot: Slot) {
-    let rule = slot.rule;
-    if slot.number != 0 {
-        say_name(out, b"  holds from controller", controller as u32);
-        say(out, b": ");
-        say_change(out, slot.number, rule);
-        say(out, b"\n");
-    }
-}
-
-fn say_slots(out: &mut [u8; OUT], s: Switch) {
-    let slots = s.slots;
-    let mut i: u8 = 0;
-    while i < limits::CONTROLLERS {
-        say_slot(out, i, slots[i as usize]);
-        i += 1;
-    }
-}
-
-fn holds_nothing(s: Switch) -> bool {
-    let slots = s.slots;
-    let mut i: usize = 0;
-    while i < limits::OF_CONTROLLERS {
-        let slot = slots[i];
+fn say_slots(out: &mut Out, s: &Switch) -> fmt::Result {
+    for (controller, slot) in s.slots.iter().enumerate() {
         if slot.number != 0 {
-            return false;
+            let change = ChangeWords {
+                number: slot.number,
+                rule: slot.rule,
+            };
+            writeln!(out, "  holds from controller {controller}: {change}")?;
         }
-        i += 1;
     }
-    true
+    Ok(())
 }
 
 // Whether a switch is as it was set up: no change was made, and no share is held.
-fn is_fresh(s: Switch) -> bool {
-    if s.last != 0 {
-        return false;
-    }
-    holds_nothing(s)
+fn is_fresh(s: &Switch) -> bool {
+    s.last == 0 && s.slots.iter().all(|slot| slot.number == 0)
 }
 
-fn say_switch(out: &mut [u8; OUT], s: Switch) {
-    let table = s.table;
-    if is_fresh(s) {
-        return;
-    }
-    story::say_last(out, s.id, s.last);
+fn say_switch(out: &mut Out, s: &Switch) -> fmt::Result {
+    let position = Position {
+        switch: s.id,
+        last: s.last,
+    };
     if s.last == 0 {
-        say(out, b"\n");
-    } else if table.count == 0 {
-        say(out, b", with no entry\n");
+        writeln!(out, "{position}")?;
+    } else if s.table.count == 0 {
+        writeln!(out, "{position}, with no entry")?;
     } else {
-        say(out, b":\n");
-        say_table(out, table);
+        writeln!(out, "{position}:")?;
+        say_table(out, &s.table)?;
     }
-    say_slots(out, s);
-}
-
-// A byte for each switch: 1 if it is as it was set up.
-fn fresh_of(switches: [Switch; limits::OF_SWITCHES]) -> [u8; ENDS] {
-    let mut fresh = [0u8; ENDS];
-    let mut i: usize = 0;
-    while i < ENDS {
-        if is_fresh(switches[i]) {
-            fresh[i] = 1;
-        }
-        i += 1;
-    }
-    fresh
-}
-
-fn say_changed(out: &mut [u8; OUT], switches: [Switch; limits::OF_SWITCHES]) {
-    let mut i: usize = 0;
-    while i < limits::OF_SWITCHES {
-        say_switch(out, switches[i]);
-        i += 1;
-    }
+    say_slots(out, s)
 }
 
 // Each switch on which something happened, then the numbers of the others.
-fn say_switches(out: &mut [u8; OUT], switches: [Switch; limits::OF_SWITCHES]) {
-    let fresh = fresh_of(switches);
-    say(out, b"\n");
-    say_changed(out, switches);
-    if sets::count_of(&fresh, 1) != 0 {
-        say(out, b"no change was made on ");
-        sets::say_switches(out, &fresh, 1);
-        say(out, b"\n");
+fn say_switches(out: &mut Out, switches: &[Switch]) -> fmt::Result {
+    writeln!(out)?;
+    for s in switches.iter().filter(|s| !is_fresh(s)) {
+        say_switch(out, s)?;
     }
-}
-
-fn say_told(out: &mut [u8; OUT], controller: u8, made: bool) {
-    if made {
-        say_name(out, b": made; controller", controller as u32);
-        say(out, b" was not told");
+    let fresh = chosen(limits::SWITCHES, |s| {
+        switches.get(usize::from(s)).is_some_and(|s| is_fresh(s))
+    });
+    if fresh.is_empty() {
+        return Ok(());
     }
-    say(out, b"\n");
+    let names = Named {
+        one: "switch",
+        many: "switches",
+        numbers: fresh.as_slice(),
+    };
+    writeln!(out, "no change was made on {names}")
 }
 
-fn say_undone_change(out: &mut [u8; OUT], lasts: &[u32; ENDS], controller: u8, change: Undone) {
-    let rule = change.rule;
-    say(out, b"  ");
-    say_change(out, change.number, rule);
-    say_name(out, b", on switch", change.switch as u32);
-    say_name(out, b", flow", change.flow as u32);
-    say_told(out, controller, untold::is_made(lasts, change));
-}
-
-fn say_undone(out: &mut [u8; OUT], lasts: &[u32; ENDS], controller: u8, held: Held) {
-    let changes = held.changes;
-    let count = held.count;
-    let mut i: usize = 0;
-    while i < limits::UNDONE {
-        if i < count {
-            say_undone_change(out, lasts, controller, changes[i]);
+fn say_undone(out: &mut Out, switches: &[Switch], c: &Controller) -> fmt::Result {
+    let held = &c.progress.undone;
+    for undone in held.changes.iter().take(held.count) {
+        let change = ChangeWords {
+            number: undone.number,
+            rule: undone.rule,
+        };
+        write!(
+            out,
+            "  {change}, on switch {}, flow {}",
+            undone.switch, undone.flow
+        )?;
+        if untold::is_made(switches, undone) {
+            writeln!(out, ": made; controller {} was not told", c.id)?;
+        } else {
+            writeln!(out)?;
         }
-        i += 1;
     }
+    Ok(())
 }
 
 // Whether a controller has taken no decision: no serial was decided.
-fn took_none(c: Controller) -> bool {
-    let serials = c.progress.serials;
-    let mut i: usize = 0;
-    while i < limits::OF_SWITCHES {
-        if serials[i] != 0 {
-            return false;
-        }
-        i += 1;
-    }
-    true
-}
-
-fn say_nothing_left(out: &mut [u8; OUT], c: Controller) {
-    if took_none(c) {
-        say(out, b", and took no decision");
-    }
-    say(out, b"\n");
+fn took_none(c: &Controller) -> bool {
+    c.progress.serials.iter().all(|serial| *serial == 0)
 }
 
 // How many of the undone changes are made.
-fn say_made(out: &mut [u8; OUT], count: usize, made: usize) {
-    if made == 0 {
-        say(out, b":\n");
-    } else if count == 1 {
-        say(out, b", which is made:\n");
-    } else if count == made {
-        say(out, b", all of them made:\n");
-    } else {
-        say(out, b", ");
-        say_number(out, made as u64);
-        say(out, b" of them made:\n");
-    }
+#[derive(Clone, Copy)]
+struct MadeOf {
+    made: usize,
+    count: usize,
 }
 
-fn say_controller(out: &mut [u8; OUT], lasts: &[u32; ENDS], c: Controller) {
-    let held = c.progress.undone;
-    say_name(out, b"controller", c.id as u32);
-    say(out, b" has ");
-    say_count(out, controller::undone_in(held) as u32);
-    if held.count == 0 {
-        say_nothing_left(out, c);
-    } else {
-        say_made(out, held.count, untold::count_of(lasts, held));
-        say_undone(out, lasts, c.id, held);
-    }
-}
-
-// The switches, then the controllers.
-pub(crate) fn say_ends(out: &mut [u8; OUT], world: World) {
-    let switches = world.switches;
-    let lasts = untold::lasts_of(switches);
-    say_switches(out, switches);
-    let mut i: u8 = 0;
-    while i < limits::CONTROLLERS {
-        if i < world.n {
-            let c = world.controllers[i as usize];
-            say_controller(out, &lasts, c);
+impl fmt::Display for MadeOf {
+    fn fmt<W: fmt::Write>(&self, f: &mut fmt::Formatter<W>) -> fmt::Result {
+        if self.made == 0 {
+            Ok(())
+        } else if self.count == 1 {
+            f.write_str(", which is made")
+        } else if self.count == self.made {
+            f.write_str(", all of them made")
+        } else {
+            write!(f, ", {} of them made", self.made)
         }
-        i += 1;
     }
+}
+
+fn say_controller(out: &mut Out, switches: &[Switch], c: &Controller) -> fmt::Result {
+    let held = c.progress.undone;
+    let undone = UndoneCount(controller::undone_in(held) as u32);
+    write!(out, "controller {} has {undone}", c.id)?;
+    if held.count == 0 {
+        let idle = if took_none(c) {
+            ", and took no decision"
+        } else {
+            ""
+        };
+        return writeln!(out, "{idle}");
+    }
+    let made = MadeOf {
+        made: untold::made_of(switches, &held).len(),
+        count: held.count,
+    };
+    writeln!(out, "{made}:")?;
+    say_undone(out, switches, c)
+}
+
+/// The switches, then the controllers.
+pub(crate) fn say_ends(out: &mut Out, world: &World) -> fmt::Result {
+    say_switches(out, &world.switches)?;
+    for c in world.controllers.iter().take(usize::from(world.n)) {
+        say_controller(out, &world.switches, c)?;
+    }
+    Ok(())
 }

@@ -1,50 +1,41 @@
 // The playbook: each plan with its trigger, and its changes.
 use playbook::{Change, Plan, Playbook};
-use prose::{OUT, say};
-use story::{say_name, say_rule};
+use prose::Out;
+use std::fmt;
+use std::fmt::Write;
+use story::RuleWords;
 
-fn say_change(out: &mut [u8; OUT], change: Change) {
-    let rule = change.rule;
-    say_name(out, b"  flow", change.flow as u32);
-    say_name(out, b", switch", change.switch as u32);
-    say(out, b": ");
-    say_rule(out, rule);
-    say(out, b"\n");
-}
-
-// So many changes from a place on.
-fn say_changes(out: &mut [u8; OUT], book: Playbook, first: usize, count: usize) {
-    let changes = book.changes;
-    let mut i: usize = 0;
-    while i < playbook::limits::CHANGES {
-        if first <= i {
-            if i - first < count {
-                say_change(out, changes[i]);
-            }
-        }
-        i += 1;
+/// The changes of a plan.
+pub(crate) fn changes_of<'a>(book: &'a Playbook, plan: &Plan) -> &'a [Change] {
+    match book.changes.get(plan.first..) {
+        None => &[],
+        Some(changes) => changes.get(..plan.count).unwrap_or(changes),
     }
 }
 
-fn say_plan(out: &mut [u8; OUT], book: Playbook, plan: Plan) {
-    say_name(out, b"when switch", plan.switch as u32);
-    say_name(out, b" tells of cause", plan.cause as u32);
-    if plan.count == 0 {
-        say(out, b": no change\n");
-    } else {
-        say(out, b":\n");
-        say_changes(out, book, plan.first, plan.count);
+fn say_plan(out: &mut Out, book: &Playbook, plan: &Plan) -> fmt::Result {
+    let changes = changes_of(book, plan);
+    let what = if changes.is_empty() { " no change" } else { "" };
+    writeln!(
+        out,
+        "when switch {} tells of cause {}:{what}",
+        plan.switch, plan.cause
+    )?;
+    for change in changes {
+        writeln!(
+            out,
+            "  flow {}, switch {}: {}",
+            change.flow,
+            change.switch,
+            RuleWords(change.rule)
+        )?;
     }
+    Ok(())
 }
 
-pub(crate) fn say_plans(out: &mut [u8; OUT], book: Playbook) {
-    let plans = book.plans;
-    let planned = book.planned;
-    let mut i: usize = 0;
-    while i < playbook::limits::PLANS {
-        if i < planned {
-            say_plan(out, book, plans[i]);
-        }
-        i += 1;
+pub(crate) fn say_plans(out: &mut Out, book: &Playbook) -> fmt::Result {
+    for plan in book.plans.iter().take(book.planned) {
+        say_plan(out, book, plan)?;
     }
+    Ok(())
 }

@@ -1,152 +1,133 @@
 // Rising numbers in words: three or more in a row are a range, as 1 to 4, 7 and 8; after 24 items the rest is counted. A
 // number may have a mark, which stands behind it in brackets; numbers with different marks are in no range together.
-use prose::{OUT, say, say_number};
+use answer::limits;
+use arrayvec::ArrayVec;
+use std::fmt;
 
-// A mark is counted in these.
-pub(crate) const MARK: u64 = 0x1_0000_0000;
-
-// Room for the ordinals of all records.
-pub(crate) const NUMBERS: usize = 4096;
+// Room for the numbers of all switches, or of all controllers.
+pub(crate) const ENDS: usize = limits::OF_CONTROLLERS;
 
 // So many items are told.
 pub(crate) const ITEMS: usize = 24;
 
-fn at(numbers: &[u64; NUMBERS], i: usize) -> u64 {
-    numbers[i % NUMBERS]
+/// A number, and its mark if it has one.
+#[derive(Clone, Copy, PartialEq, Eq, Default)]
+pub(crate) struct Number {
+    pub(crate) value: u32,
+    pub(crate) mark: Option<u8>,
 }
 
-fn next(count: usize, i: usize) -> usize {
-    if i < count { i + 1 } else { i }
-}
-
-fn follows(number: u64, before: u64) -> bool {
-    before < number && number - before == 1
-}
-
-// Whether the number at a place follows the one at the place before it.
-fn goes_on(numbers: &[u64; NUMBERS], count: usize, i: usize) -> bool {
-    if i == 0 || count <= i {
-        return false;
+impl Number {
+    pub(crate) fn plain(value: u32) -> Number {
+        Number { value, mark: None }
     }
-    follows(at(numbers, i), at(numbers, i - 1))
-}
 
-fn is_middle(numbers: &[u64; NUMBERS], count: usize, i: usize) -> bool {
-    goes_on(numbers, count, i) && goes_on(numbers, count, next(count, i))
-}
-
-// Whether a place is the last of three or more in a row.
-fn ends_range(numbers: &[u64; NUMBERS], count: usize, i: usize) -> bool {
-    if i == 0 || goes_on(numbers, count, next(count, i)) {
-        return false;
+    fn follows(self, before: Number) -> bool {
+        before.value.checked_add(1) == Some(self.value) && before.mark == self.mark
     }
-    goes_on(numbers, count, i) && goes_on(numbers, count, i - 1)
 }
 
-// Whether a place is the first of three or more in a row.
-fn starts_range(numbers: &[u64; NUMBERS], count: usize, i: usize) -> bool {
-    !goes_on(numbers, count, i) && is_middle(numbers, count, next(count, i))
+// A number, or all up to another.
+#[derive(Clone, Copy)]
+struct Item {
+    first: Number,
+    last: Number,
 }
 
-fn starts_item(numbers: &[u64; NUMBERS], count: usize, i: usize) -> bool {
-    !is_middle(numbers, count, i) && !ends_range(numbers, count, i)
-}
-
-// Whether all numbers from a place on are in a row.
-fn is_row(numbers: &[u64; NUMBERS], count: usize, first: usize) -> bool {
-    let mut i = next(count, first);
-    while i < count {
-        if !goes_on(numbers, count, i) {
-            return false;
+impl fmt::Display for Item {
+    fn fmt<W: fmt::Write>(&self, f: &mut fmt::Formatter<W>) -> fmt::Result {
+        write!(f, "{}", self.first.value)?;
+        if self.last != self.first {
+            write!(f, " to {}", self.last.value)?;
         }
-        i += 1;
-    }
-    true
-}
-
-// Whether the item that starts at a place is the last one: two in a row are two items.
-fn is_last(numbers: &[u64; NUMBERS], count: usize, i: usize) -> bool {
-    if i < count && count - i == 2 {
-        return false;
-    }
-    is_row(numbers, count, i)
-}
-
-fn say_separator(out: &mut [u8; OUT], numbers: &[u64; NUMBERS], count: usize, i: usize) {
-    if i != 0 {
-        if is_last(numbers, count, i) {
-            say(out, b" and ");
-        } else {
-            say(out, b", ");
+        match self.last.mark {
+            None => Ok(()),
+            Some(mark) => write!(f, " ({mark})"),
         }
     }
 }
 
-fn say_mark(out: &mut [u8; OUT], number: u64) {
-    let mark = number / MARK;
-    if mark != 0 {
-        say(out, b" (");
-        say_number(out, mark);
-        say(out, b")");
+// The first item of numbers, and the numbers behind it.
+fn first_item(numbers: &[Number]) -> Option<(Item, &[Number])> {
+    let (first, others) = numbers.split_first()?;
+    let row = others
+        .iter()
+        .zip(numbers)
+        .position(|(next, before)| !next.follows(*before))
+        .unwrap_or(others.len());
+    let (followers, behind) = others.split_at(row);
+    let first = *first;
+    match followers {
+        [] | [_] => Some((Item { first, last: first }, others)),
+        [.., last] => Some((Item { first, last: *last }, behind)),
     }
 }
 
-// What is told at a place: a number, the end of a range, or nothing inside one.
-fn say_place(out: &mut [u8; OUT], numbers: &[u64; NUMBERS], count: usize, i: usize) {
-    let number = at(numbers, i);
-    if is_middle(numbers, count, i) {
-        return;
-    }
-    if ends_range(numbers, count, i) {
-        say(out, b" to ");
-    }
-    say_number(out, number % MARK);
-    if !starts_range(numbers, count, i) {
-        say_mark(out, number);
-    }
-}
+// Rising numbers in words.
+#[derive(Clone, Copy)]
+struct Ranges<'a>(&'a [Number]);
 
-fn say_more(out: &mut [u8; OUT], left: usize) {
-    say(out, b" and ");
-    say_number(out, left as u64);
-    say(out, b" more");
-}
-
-fn one_more(items: usize) -> usize {
-    if items < ITEMS { items + 1 } else { items }
-}
-
-// The first `count` of rising numbers.
-fn say_ranges(out: &mut [u8; OUT], numbers: &[u64; NUMBERS], count: usize) {
-    let mut items: usize = 0;
-    let mut i: usize = 0;
-    while i < count {
-        if starts_item(numbers, count, i) {
-            if items == ITEMS {
-                say_more(out, count - i);
-                return;
-            }
-            say_separator(out, numbers, count, i);
-            items = one_more(items);
+impl fmt::Display for Ranges<'_> {
+    fn fmt<W: fmt::Write>(&self, f: &mut fmt::Formatter<W>) -> fmt::Result {
+        let mut rest = self.0;
+        for told in 0..ITEMS {
+            let Some((item, behind)) = first_item(rest) else {
+                break;
+            };
+            let separator = match (told, behind) {
+                (0, _) => "",
+                (_, []) => " and ",
+                _ => ", ",
+            };
+            write!(f, "{separator}{item}")?;
+            rest = behind;
         }
-        say_place(out, numbers, count, i);
-        i += 1;
+        match rest.len() {
+            0 => Ok(()),
+            left => write!(f, " and {left} more"),
+        }
     }
 }
 
-// Numbers behind their name, as switch 5 or switches 5 and 6.
-pub(crate) fn say_named(
-    out: &mut [u8; OUT],
-    one: &[u8],
-    many: &[u8],
-    numbers: &[u64; NUMBERS],
-    count: usize,
-) {
-    if count == 1 {
-        say(out, one);
-    } else {
-        say(out, many);
+/// Numbers behind their name, as switch 5 or switches 5 and 6.
+#[derive(Clone, Copy)]
+pub(crate) struct Named<'a> {
+    pub(crate) one: &'static str,
+    pub(crate) many: &'static str,
+    pub(crate) numbers: &'a [Number],
+}
+
+impl<'a> Named<'a> {
+    pub(crate) fn controllers(numbers: &'a [Number]) -> Named<'a> {
+        Named {
+            one: "controller",
+            many: "controllers",
+            numbers,
+        }
     }
-    say(out, b" ");
-    say_ranges(out, numbers, count);
+}
+
+impl fmt::Display for Named<'_> {
+    fn fmt<W: fmt::Write>(&self, f: &mut fmt::Formatter<W>) -> fmt::Result {
+        let name = either(self.numbers.len(), self.one, self.many);
+        write!(f, "{name} {}", Ranges(self.numbers))
+    }
+}
+
+/// One word or another, by a number.
+pub(crate) fn either(count: usize, one: &'static str, many: &'static str) -> &'static str {
+    if count == 1 { one } else { many }
+}
+
+/// The numbers, below `ends`, of the ends that pass a test.
+pub(crate) fn chosen<F: Fn(u8) -> bool>(ends: u8, passes: F) -> ArrayVec<Number, ENDS>
+    requires { F.IsAlwaysCallable passes }
+{
+    let mut numbers = ArrayVec::new();
+    for end in 0..ends {
+        if passes(end) {
+            let _ = numbers.try_push(Number::plain(u32::from(end)));
+        }
+    }
+    numbers
 }

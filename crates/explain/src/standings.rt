@@ -1,160 +1,172 @@
 // How each controller stands to the agreed decisions, and what is told of it.
-use crate::decisions::{LISTS, say_event};
-use crate::sets::{ENDS, say_either};
-use crate::{decisions, sets};
-use answer::limits;
-use prose::{OUT, say, say_number};
-use story::say_name;
+use crate::decisions::Decision;
+use crate::ranges::{Named, chosen, either};
+use crate::verdict::Verdict;
+use prose::Out;
+use std::fmt;
+use std::fmt::Write;
 
-// A controller took all of them, some, none, or others.
-const ALL: u8 = 1;
-
-const SOME: u8 = 2;
-
-const NONE: u8 = 3;
-
-pub(crate) const OTHERS: u8 = 4;
-
-fn standing_of(lists: &[u64; LISTS], agreed: u8, controller: u8) -> u8 {
-    let length = decisions::length_of(lists, controller);
-    if !decisions::is_beginning(lists, controller, agreed) {
-        return OTHERS;
-    }
-    if length == decisions::length_of(lists, agreed) {
-        return ALL;
-    }
-    if length == 0 { NONE } else { SOME }
+/// What a controller took of the agreed decisions: all of them, the first ones, none, or others in their place.
+#[derive(Clone, Copy, PartialEq, Eq)]
+pub(crate) enum Standing {
+    Complete,
+    Late,
+    Idle,
+    Deviating,
 }
 
-pub(crate) fn standings_of(lists: &[u64; LISTS], n: u8, agreed: u8) -> [u8; ENDS] {
-    let mut standings = [0u8; ENDS];
-    let mut i: u8 = 0;
-    while i < limits::CONTROLLERS {
-        if i < n {
-            standings[i as usize] = standing_of(lists, agreed, i);
-        }
-        i += 1;
+pub(crate) fn standing_of(verdict: Verdict<'_>, controller: u8) -> Standing {
+    let evening = verdict.evening;
+    let took = evening.decisions(controller).count();
+    if evening
+        .first_difference(controller, verdict.agreed)
+        .is_some()
+    {
+        Standing::Deviating
+    } else if took == evening.decisions(verdict.agreed).count() {
+        Standing::Complete
+    } else if took == 0 {
+        Standing::Idle
+    } else {
+        Standing::Late
     }
-    standings
+}
+
+// Whether some controller stands so.
+fn has_any(verdict: Verdict<'_>, standing: Standing) -> bool {
+    (0..verdict.evening.world.n).any(|c| standing_of(verdict, c) == standing)
 }
 
 // Whether a decision is agreed, in another place.
-fn say_elsewhere(out: &mut [u8; OUT], ordinal: usize) {
-    if ordinal == 0 {
-        say(out, b", which is not agreed");
-    } else {
-        say(out, b", which is agreed decision ");
-        say_number(out, ordinal as u64);
+#[derive(Clone, Copy)]
+struct Elsewhere(Option<usize>);
+
+impl fmt::Display for Elsewhere {
+    fn fmt<W: fmt::Write>(&self, f: &mut fmt::Formatter<W>) -> fmt::Result {
+        match self.0 {
+            None => f.write_str(", which is not agreed"),
+            Some(place) => write!(f, ", which is agreed decision {}", place.saturating_add(1)),
+        }
     }
 }
 
 // Where a controller's decisions first differ from the agreed ones, and how.
-fn say_deviation(out: &mut [u8; OUT], lists: &[u64; LISTS], agreed: u8, controller: u8) {
-    let k = decisions::first_difference(lists, controller, agreed);
-    let own = decisions::entry(lists, controller, k);
-    say_name(out, b"  controller", controller as u32);
-    say(out, b" deviates at decision ");
-    say_number(out, k as u64);
-    say(out, b": it took ");
-    say_event(out, own);
-    say_elsewhere(out, decisions::ordinal_of(lists, agreed, own));
-    say(out, b"; agreed decision ");
-    say_number(out, k as u64);
-    say(out, b" is ");
-    say_event(out, decisions::entry(lists, agreed, k));
-    say(out, b"\n");
+#[derive(Clone, Copy)]
+struct Deviation {
+    controller: u8,
+    place: usize,
+    own: Decision,
+    elsewhere: Elsewhere,
+    agreed: Decision,
 }
 
-fn say_deviations(out: &mut [u8; OUT], lists: &[u64; LISTS], agreed: u8, standings: &[u8; ENDS]) {
-    let mut i: u8 = 0;
-    while i < limits::CONTROLLERS {
-        if standings[i as usize] == OTHERS {
-            say_deviation(out, lists, agreed, i);
-        }
-        i += 1;
+impl Deviation {
+    fn of(verdict: Verdict<'_>, controller: u8) -> Option<Deviation> {
+        let evening = verdict.evening;
+        let place = evening.first_difference(controller, verdict.agreed)?;
+        let own = evening.decisions(controller).nth(place)?;
+        let agreed = evening.decisions(verdict.agreed).nth(place)?;
+        let elsewhere = evening
+            .decisions(verdict.agreed)
+            .position(|decision| decision == own);
+        Some(Deviation {
+            controller,
+            place,
+            own,
+            elsewhere: Elsewhere(elsewhere),
+            agreed,
+        })
     }
 }
 
+impl fmt::Display for Deviation {
+    fn fmt<W: fmt::Write>(&self, f: &mut fmt::Formatter<W>) -> fmt::Result {
+        let ordinal = self.place.saturating_add(1);
+        write!(
+            f,
+            "controller {} deviates at decision {ordinal}: it took {}{}",
+            self.controller, self.own, self.elsewhere
+        )?;
+        write!(f, "; agreed decision {ordinal} is {}", self.agreed)
+    }
+}
+
+fn say_deviations(out: &mut Out, verdict: Verdict<'_>) -> fmt::Result {
+    for controller in 0..verdict.evening.world.n {
+        if let Some(deviation) = Deviation::of(verdict, controller) {
+            writeln!(out, "  {deviation}")?;
+        }
+    }
+    Ok(())
+}
+
 // So many agreed decisions, of which some controllers took none or not all.
-fn say_agreed(out: &mut [u8; OUT], count: u64) {
-    say_number(out, count);
-    say_either(
+fn say_agreed(out: &mut Out, count: usize) -> fmt::Result {
+    let are = either(count, "decision is", "decisions are");
+    let them = either(count, "it", "them");
+    writeln!(
         out,
-        count,
-        b" decision is agreed; no controller deviates from it",
-        b" decisions are agreed; no controller deviates from them",
-    );
+        "  {count} {are} agreed; no controller deviates from {them}"
+    )
 }
 
 // So many decisions, which all of n controllers took.
-fn say_taken(out: &mut [u8; OUT], n: u8, count: u64) {
+fn say_taken(out: &mut Out, n: u8, count: usize) -> fmt::Result {
     if n == 1 {
-        say(out, b"controller 0 took ");
-        say_number(out, count);
-        say_either(out, count, b" decision", b" decisions");
+        let decisions = either(count, "decision", "decisions");
+        writeln!(out, "  controller 0 took {count} {decisions}")
     } else if count == 1 {
-        say(out, b"all controllers took the same decision");
+        writeln!(out, "  all controllers took the same decision")
     } else {
-        say(out, b"all controllers took the same ");
-        say_number(out, count);
-        say(out, b" decisions in the same order");
+        writeln!(
+            out,
+            "  all controllers took the same {count} decisions in the same order"
+        )
     }
 }
 
 // The decisions where no controller deviates.
-fn say_order(out: &mut [u8; OUT], n: u8, count: u64, late: bool) {
-    say(out, b"  ");
+fn say_order(out: &mut Out, verdict: Verdict<'_>, count: usize) -> fmt::Result {
     if count == 0 {
-        say(out, b"no decision was taken");
-    } else if late {
-        say_agreed(out, count);
+        writeln!(out, "  no decision was taken")
+    } else if has_any(verdict, Standing::Late) || has_any(verdict, Standing::Idle) {
+        say_agreed(out, count)
     } else {
-        say_taken(out, n, count);
+        say_taken(out, verdict.evening.world.n, count)
     }
-    say(out, b"\n");
 }
 
-fn say_late(out: &mut [u8; OUT], controller: u8, took: u64, count: u64) {
-    say_name(out, b"  controller", controller as u32);
-    say(out, b" took ");
-    say_number(out, took);
-    say(out, b" of ");
-    say_number(out, count);
-    say(out, b" agreed decisions\n");
-}
-
-fn say_each_late(out: &mut [u8; OUT], lists: &[u64; LISTS], agreed: u8, standings: &[u8; ENDS]) {
-    let count = decisions::length_of(lists, agreed);
-    let mut i: u8 = 0;
-    while i < limits::CONTROLLERS {
-        if standings[i as usize] == SOME {
-            say_late(out, i, decisions::length_of(lists, i), count);
+fn say_late(out: &mut Out, verdict: Verdict<'_>, count: usize) -> fmt::Result {
+    for controller in 0..verdict.evening.world.n {
+        if standing_of(verdict, controller) == Standing::Late {
+            let took = verdict.evening.decisions(controller).count();
+            writeln!(
+                out,
+                "  controller {controller} took {took} of {count} agreed decisions"
+            )?;
         }
-        i += 1;
     }
+    Ok(())
 }
 
-fn say_idle(out: &mut [u8; OUT], standings: &[u8; ENDS]) {
-    if sets::count_of(standings, NONE) != 0 {
-        say(out, b"  ");
-        sets::say_controllers(out, standings, NONE);
-        say(out, b" took no decision\n");
+fn say_idle(out: &mut Out, verdict: Verdict<'_>) -> fmt::Result {
+    let idle = chosen(verdict.evening.world.n, |c| {
+        standing_of(verdict, c) == Standing::Idle
+    });
+    if idle.is_empty() {
+        return Ok(());
     }
+    let controllers = Named::controllers(idle.as_slice());
+    writeln!(out, "  {controllers} took no decision")
 }
 
-pub(crate) fn say_decisions(
-    out: &mut [u8; OUT],
-    lists: &[u64; LISTS],
-    n: u8,
-    agreed: u8,
-    standings: &[u8; ENDS],
-) {
-    if sets::count_of(standings, OTHERS) != 0 {
-        say_deviations(out, lists, agreed, standings);
+pub(crate) fn say_decisions(out: &mut Out, verdict: Verdict<'_>) -> fmt::Result {
+    let count = verdict.evening.decisions(verdict.agreed).count();
+    if has_any(verdict, Standing::Deviating) {
+        say_deviations(out, verdict)?;
     } else {
-        let late = sets::count_of(standings, SOME) != 0 || sets::count_of(standings, NONE) != 0;
-        say_order(out, n, decisions::length_of(lists, agreed), late);
+        say_order(out, verdict, count)?;
     }
-    say_each_late(out, lists, agreed, standings);
-    say_idle(out, standings);
+    say_late(out, verdict, count)?;
+    say_idle(out, verdict)
 }

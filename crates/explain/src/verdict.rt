@@ -12,133 +12,120 @@
 // record was answered 1 with its number, switch and rule (changes.rt).
 // A controller was not told of its undone changes whose number is not above the last applied number of their switch
 // (untold.rt). Usual refusals are 2, 16 and 26 (refusals.rt).
-use crate::changes::{APPLIED, NUMBERED};
-use crate::decisions::LISTS;
-use crate::sets::{ENDS, say_either};
-use crate::standings::OTHERS;
-use crate::{changes, decisions, made, refusals, sets, standings, untold};
-use playbook::Playbook;
-use prose::{OUT, say, say_number};
-use rehearsal::{DEEDS, World};
+use crate::changes::{AgreedChanges, Numbered};
+use crate::decisions::Evening;
+use crate::ranges::{Named, Number, chosen, either};
+use crate::shares::is_made_up_for;
+use crate::standings::{Standing, standing_of};
+use crate::{made, refusals, standings, untold};
+use prose::Out;
+use std::fmt;
+use std::fmt::Write;
 
-fn say_made_up(out: &mut [u8; OUT], made_up: &[u8; ENDS]) {
-    let count = sets::count_of(made_up, 1);
-    if count != 0 {
-        say(out, b"  shares in the ");
-        say_either(out, count as u64, b"name of ", b"names of ");
-        sets::say_controllers(out, made_up, 1);
-        say(out, b" were made up\n");
+/// What a verdict rests on: what happened, and the controller whose decisions are the agreed ones.
+#[derive(Clone, Copy)]
+pub(crate) struct Verdict<'a> {
+    pub(crate) evening: Evening<'a>,
+    pub(crate) agreed: u8,
+}
+
+impl<'a> Verdict<'a> {
+    pub(crate) fn agreed_changes(self) -> AgreedChanges<'a> {
+        let evening = self.evening;
+        AgreedChanges::new(evening.book(), evening.decisions(self.agreed))
+    }
+
+    pub(crate) fn is_agreed(self, change: Numbered) -> bool {
+        self.agreed_changes().any(|agreed| agreed.is_same(change))
+    }
+
+    pub(crate) fn is_made(self, change: Numbered) -> bool {
+        self.evening
+            .deeds
+            .iter()
+            .any(|deed| change.is_made_by(deed))
+    }
+
+    fn is_made_up_for(self, controller: u8) -> bool {
+        is_made_up_for(controller, self.evening.deeds)
+    }
+
+    fn strays(self, controller: u8) -> bool {
+        standing_of(self, controller) == Standing::Deviating || self.is_made_up_for(controller)
     }
 }
 
-// How many of n controllers may stray.
-fn most_strays(n: u8) -> u8 {
-    if n == 0 { 0 } else { (n - 1) / 3 }
-}
-
-fn is_stray(standing: u8, made_up: u8) -> u8 {
-    if standing == OTHERS || made_up == 1 {
-        1
-    } else {
-        0
+fn say_made_up(out: &mut Out, verdict: Verdict<'_>) -> fmt::Result {
+    let found = chosen(verdict.evening.world.n, |c| verdict.is_made_up_for(c));
+    if found.is_empty() {
+        return Ok(());
     }
+    let names = either(found.len(), "name", "names");
+    let controllers = Named::controllers(found.as_slice());
+    writeln!(out, "  shares in the {names} of {controllers} were made up")
 }
 
-fn strays_of(standings: &[u8; ENDS], made_up: &[u8; ENDS]) -> [u8; ENDS] {
-    let mut strays = [0u8; ENDS];
-    let mut i: usize = 0;
-    while i < ENDS {
-        strays[i] = is_stray(standings[i], made_up[i]);
-        i += 1;
-    }
-    strays
-}
-
-fn say_may(out: &mut [u8; OUT], n: u8, most: u8) {
-    if most == 0 {
-        say(out, b"none may");
-    } else {
-        say_number(out, most as u64);
-        say(out, b" of ");
-        say_number(out, n as u64);
-        say(out, b" may");
-    }
-}
-
-// So many controllers stray, and no more than `most` may.
-fn say_bound(out: &mut [u8; OUT], n: u8, count: usize, most: u8) {
-    if count <= most as usize {
-        say(out, b", within the promise: ");
-        say_may(out, n, most);
-    } else {
-        say(out, b", and ");
-        if most != 0 {
-            say(out, b"only ");
-        }
-        say_may(out, n, most);
-        say(out, b": nothing is promised");
-    }
-}
-
-fn say_promise(out: &mut [u8; OUT], n: u8, strays: &[u8; ENDS]) {
-    let count = sets::count_of(strays, 1);
-    let most = most_strays(n);
-    say(out, b"  ");
-    if count == 0 {
-        say(out, b"no controller strays; ");
-        say_may(out, n, most);
-    } else {
-        sets::say_controllers(out, strays, 1);
-        say_either(out, count as u64, b" strays", b" stray");
-        say_bound(out, n, count, most);
-    }
-    say(out, b"\n");
-}
-
-fn say_changes(
-    out: &mut [u8; OUT],
-    lists: &[u64; LISTS],
-    agreed: u8,
-    applied: &[u64; APPLIED],
-    book: Playbook,
-) {
-    let mut numbered = [0u64; NUMBERED];
-    let mut made = [0u8; NUMBERED];
-    changes::number_changes(&mut numbered, lists, agreed, book);
-    changes::mark_made(&mut made, &numbered, applied);
-    made::say_changes(out, &numbered, &made, applied);
-}
-
-fn say_judged(
-    out: &mut [u8; OUT],
+// How many of n controllers may stray, in words.
+#[derive(Clone, Copy)]
+struct May {
     n: u8,
-    book: Playbook,
-    lists: &[u64; LISTS],
-    made_up: &[u8; ENDS],
-    applied: &[u64; APPLIED],
-) {
-    let agreed = decisions::agreed_by(lists, n);
-    let standings = standings::standings_of(lists, n, agreed);
-    let strays = strays_of(&standings, made_up);
-    say_changes(out, lists, agreed, applied, book);
-    standings::say_decisions(out, lists, n, agreed, &standings);
-    say_made_up(out, made_up);
-    say_promise(out, n, &strays);
+    most: u8,
 }
 
-// The verdict on a world after its last record.
-pub(crate) fn say_verdict(
-    out: &mut [u8; OUT],
-    world: World,
-    lists: &[u64; LISTS],
-    made_up: &[u8; ENDS],
-    applied: &[u64; APPLIED],
-    answers: &[u8; DEEDS],
-) {
-    let first = world.controllers[0];
-    let book = first.playbook;
-    say(out, b"\nverdict\n");
-    say_judged(out, world.n, book, lists, made_up, applied);
-    untold::say_untold(out, world);
-    refusals::say_refusals(out, answers);
+impl May {
+    fn of(n: u8) -> May {
+        May {
+            n,
+            most: n.saturating_sub(1) / 3,
+        }
+    }
+}
+
+impl fmt::Display for May {
+    fn fmt<W: fmt::Write>(&self, f: &mut fmt::Formatter<W>) -> fmt::Result {
+        match self.most {
+            0 => f.write_str("none may"),
+            most => write!(f, "{most} of {} may", self.n),
+        }
+    }
+}
+
+// These controllers stray, and no more than `may` says are within the promise.
+fn say_strays(out: &mut Out, strays: &[Number], may: May) -> fmt::Result {
+    let controllers = Named::controllers(strays);
+    let stray = either(strays.len(), "strays", "stray");
+    write!(out, "  {controllers} {stray}")?;
+    if strays.len() <= usize::from(may.most) {
+        writeln!(out, ", within the promise: {may}")
+    } else if may.most == 0 {
+        writeln!(out, ", and {may}: nothing is promised")
+    } else {
+        writeln!(out, ", and only {may}: nothing is promised")
+    }
+}
+
+fn say_promise(out: &mut Out, verdict: Verdict<'_>) -> fmt::Result {
+    let n = verdict.evening.world.n;
+    let strays = chosen(n, |c| verdict.strays(c));
+    let may = May::of(n);
+    if strays.is_empty() {
+        writeln!(out, "  no controller strays; {may}")
+    } else {
+        say_strays(out, strays.as_slice(), may)
+    }
+}
+
+/// The verdict on a rehearsal after its last record.
+pub(crate) fn say_verdict(out: &mut Out, evening: Evening<'_>) -> fmt::Result {
+    let verdict = Verdict {
+        evening,
+        agreed: evening.agreed_by(),
+    };
+    writeln!(out, "\nverdict")?;
+    made::say_changes(out, verdict)?;
+    standings::say_decisions(out, verdict)?;
+    say_made_up(out, verdict)?;
+    say_promise(out, verdict)?;
+    untold::say_untold(out, evening.world)?;
+    refusals::say_refusals(out, evening.deeds)
 }

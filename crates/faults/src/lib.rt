@@ -6,5 +6,5 @@
 mod places;
 mod words;
 
-pub use places::{say_place, say_record};
-pub use words::{say_malformed, say_words};
+pub use places::{PlaceWords, RecordOrdinal};
+pub use words::{MALFORMED, Words};

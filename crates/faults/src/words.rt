@@ -1,8 +1,7 @@
 // The words of a refusal before the script.
 use crate::places::refused;
-use lists::{behind, byte_at};
-use notation::kinds;
-use prose::{OUT, say, say_number};
+use notation::Kind;
+use std::fmt;
 
 // The longest script, in bytes (question 28).
 const SCRIPT: usize = 8192;
@@ -10,81 +9,81 @@ const SCRIPT: usize = 8192;
 // Where a change has its switch.
 const SWITCH_AT: usize = 2;
 
-// Of a rule (question 15), wherever it stands.
-pub fn say_malformed(out: &mut [u8; OUT]) {
-    say(
-        out,
-        b"a length above 32, or bits of the address past its length",
-    );
-}
+/// Of a rule (question 15), wherever it stands.
+pub const MALFORMED: &str = "a length above 32, or bits of the address past its length";
 
-// Which of the limits of question 36 is passed.
-fn say_limit(out: &mut [u8; OUT], book: &[u8]) {
+// Which of the limits of question 36 a playbook passes.
+fn limit_passed(book: &[u8]) -> &'static str {
     let place = refused(book);
-    if byte_at(book, place.from) == kinds::PLAN {
-        say(out, b"more than 64 plans");
+    if place.kind(book) == Some(Kind::Plan) {
+        "more than 64 plans"
     } else if 32 < place.listed {
-        say(out, b"more than 32 changes in a plan");
+        "more than 32 changes in a plan"
     } else {
-        say(out, b"more than 512 changes");
+        "more than 512 changes"
     }
 }
 
-// Which switch has too many prefixes.
-fn say_prefixes(out: &mut [u8; OUT], book: &[u8]) {
-    let place = refused(book);
-    say(
-        out,
-        b"more than 64 different prefixes with lengths on one switch, switch ",
-    );
-    say_number(out, byte_at(behind(book, place.from), SWITCH_AT) as u64);
+// The switch of the change at which a playbook is refused.
+fn full_switch(book: &[u8]) -> u8 {
+    let at = refused(book).from.saturating_add(SWITCH_AT);
+    book.get(at).copied().unwrap_or(0)
 }
 
-fn excess(length: usize, used: usize) -> usize {
-    if used <= length {
-        if SCRIPT <= length - used {
-            return length - used - SCRIPT;
+// By how many bytes the script behind a playbook is too long.
+fn excess(book: &[u8]) -> usize {
+    let outcome = playbook::read_first(book);
+    book.len()
+        .saturating_sub(outcome.used)
+        .saturating_sub(SCRIPT)
+}
+
+/// What is wrong with an input that is refused before its script. It was read into `room` bytes.
+#[derive(Clone, Copy)]
+pub struct Words<'a> {
+    pub answer: u8,
+    pub input: &'a [u8],
+    pub room: usize,
+}
+
+impl Words<'_> {
+    // What follows an excess: an input that fills its room may have been cut there.
+    fn or_more(&self) -> &'static str {
+        if self.input.len() == self.room {
+            " or more"
+        } else {
+            ""
         }
     }
-    0
 }
 
-// By how much a script is too long; an input that fills its room may have been cut there.
-fn say_excess(out: &mut [u8; OUT], book: &[u8], filled: bool) {
-    let outcome = playbook::read_first(book);
-    say(out, b"the script is longer than 8192 bytes, by ");
-    say_number(out, excess(book.len(), outcome.used) as u64);
-    if filled {
-        say(out, b" or more");
-    }
-}
-
-fn say_answer(out: &mut [u8; OUT], answer: u8, book: &[u8], filled: bool) {
-    match answer {
-        answer::UNKNOWN_ID => say(out, b"the switches are 0 to 15"),
-        answer::MALFORMED_RULE => say_malformed(out),
-        answer::LIMITS_BROKEN => say(out, b"there can be 1 to 16 controllers"),
-        answer::SCRIPT_TOO_LONG => say_excess(out, book, filled),
-        answer::CUT_SHORT => say(out, b"the input stops before the playbook's end"),
-        answer::UNKNOWN_KIND => say(
-            out,
-            b"a playbook has plans and changes only, and ends with end",
-        ),
-        answer::NO_PLAN => say(out, b"a change stands before any plan"),
-        answer::TRIGGER_USED => say(out, b"two plans have the same switch and cause"),
-        answer::OVER_LIMIT => say_limit(out, book),
-        answer::TOO_MANY_PREFIXES => say_prefixes(out, book),
-        answer::BYTES_LEFT => say(out, b"bytes are left behind the end"),
-        _ => say(out, b"unknown number"),
-    }
-}
-
-// What is wrong with an input that is refused before its script. It was read into so many bytes.
-pub fn say_words(out: &mut [u8; OUT], answer: u8, input: &[u8], room: usize) {
-    let filled = input.len() == room;
-    if input.len() == 0 {
-        say_answer(out, answer, input, filled);
-    } else {
-        say_answer(out, answer, &input[1..], filled);
+impl fmt::Display for Words<'_> {
+    fn fmt<W: fmt::Write>(&self, f: &mut fmt::Formatter<W>) -> fmt::Result {
+        let book = lists::behind(self.input, 1);
+        match self.answer {
+            answer::UNKNOWN_ID => f.write_str("the switches are 0 to 15"),
+            answer::MALFORMED_RULE => f.write_str(MALFORMED),
+            answer::LIMITS_BROKEN => f.write_str("there can be 1 to 16 controllers"),
+            answer::SCRIPT_TOO_LONG => write!(
+                f,
+                "the script is longer than 8192 bytes, by {}{}",
+                excess(book),
+                self.or_more()
+            ),
+            answer::CUT_SHORT => f.write_str("the input stops before the playbook's end"),
+            answer::UNKNOWN_KIND => {
+                f.write_str("a playbook has plans and changes only, and ends with end")
+            }
+            answer::NO_PLAN => f.write_str("a change stands before any plan"),
+            answer::TRIGGER_USED => f.write_str("two plans have the same switch and cause"),
+            answer::OVER_LIMIT => f.write_str(limit_passed(book)),
+            answer::TOO_MANY_PREFIXES => write!(
+                f,
+                "more than 64 different prefixes with lengths on one switch, switch {}",
+                full_switch(book)
+            ),
+            answer::BYTES_LEFT => f.write_str("bytes are left behind the end"),
+            _ => f.write_str("unknown number"),
+        }
     }
 }

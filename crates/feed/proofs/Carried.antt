@@ -6,6 +6,7 @@ use mathlib.Core.List.{List, [], ◌∷◌}
 use Prim.Native.Nat.{ℕ, ◌<◌}
 use native.Mathlib.Omega.{arith}
 use lib.ListN.{length}
+use Rattle.std.specs.Prelude.{Option}
 use Rattle.answer.specs.Ask.{pick}
 use Rattle.answer.proofs.Bools.{and_join}
 use Rattle.lists.specs.Arrays.{every}
@@ -15,7 +16,6 @@ use Rattle.switch.specs.declared.Slot.{Slot}
 use Rattle.switch.specs.declared.Switch.{Switch}
 use Rattle.rehearsal.specs.Deeds.{deeds_from}
 use Rattle.rehearsal.specs.declared.Deed.{Deed}
-use Rattle.rehearsal.specs.declared.Dropped.{Dropped}
 use Rattle.rehearsal.specs.declared.World.{World}
 use Rattle.rehearsal.proofs.Doing.{Does, applies, leaves, switch_at, deeds_keep}
 use Rattle.feed.specs.Rules.{rules_applied, table_after, numbers_of}
@@ -47,7 +47,7 @@ first_takes rules (leaves table last) next = record {
 }
 
 -- a script, for a switch that is there
-pub script_takes : (d : Dropped) (s skip : ℕ) (script : List ℕ) (w : World) → s < length w.switches
+pub script_takes : (d : Option ℕ) (s skip : ℕ) (script : List ℕ) (w : World) → s < length w.switches
     → Takes (switch_at s w) (rules_applied s (deeds_from d skip script w).0) (switch_at s (deeds_from d skip script w).1)
 unfolding rules_applied
 script_takes d s =

@@ -7,6 +7,7 @@ use native.Mathlib.Omega.{arith}
 use borrow.Author.Tests.{lt-ltb, le-ltb, eq-eqb, ne_eqb}
 use lib.ListN.{length, take}
 use lib.Seq.{length-take-le}
+use Rattle.std.specs.Prelude.{None}
 use Rattle.answer.specs.Limits.{switch_count}
 use Rattle.answer.proofs.Asked.{none_asked, refused, asked}
 use Rattle.answer.proofs.Bools.{by_eq, by_le, pick-keeps}
@@ -16,13 +17,12 @@ use Rattle.switch.specs.declared.Slot.{Slot}
 use Rattle.rehearsal.specs.Deeds.{told_of}
 use Rattle.rehearsal.specs.Limits.{most_lines}
 use Rattle.rehearsal.specs.declared.Deed.{Deed}
-use Rattle.rehearsal.specs.declared.Dropped.TheVariants.{Nobody}
 use Rattle.rehearsal.proofs.Telling.{told_cases, told_room}
 use Rattle.feed.specs.Rules.{is_applied, rules_applied, applied_by, applied_of, rules_in}
 
 -- the deeds of a rehearsal
 abbrev pub deeds_of : List ℕ → List Deed
-deeds_of input = take (told_of Nobody input).count (told_of Nobody input).deeds
+deeds_of input = take (told_of None input).count (told_of None input).deeds
 
 -- a deed has one rule at most
 pub rules-few : (s : ℕ) (ds : List Deed) → length (rules_applied s ds) ≤ length ds
@@ -40,19 +40,19 @@ module _ (s : ℕ) (input : List ℕ) where
         arith,
         room.0,
         rules-few s (deeds_of input),
-        length-take-le (told_of Nobody input).count (told_of Nobody input).deeds room.1,
+        length-take-le (told_of None input).count (told_of None input).deeds room.1,
       )
 
   -- a refused input has no rules
-  none_told : ((told_of Nobody input).answer ≡ 0 → ⊥) → rules_applied s (deeds_of input) ≡ []
+  none_told : ((told_of None input).answer ≡ 0 → ⊥) → rules_applied s (deeds_of input) ≡ []
   unfolding rules_applied
   none_told other = told_cases input (λ q no is. rw is) (λ is few. absurd (other (rw is)))
 
   pub known-applied : s < switch_count
-      → applied_of s input ≡ applied_by (told_of Nobody input).answer (rules_applied s (deeds_of input))
+      → applied_of s input ≡ applied_by (told_of None input).answer (rules_applied s (deeds_of input))
   unfolding applied_of
   known-applied known =
-      let k = (told_of Nobody input).answer in
+      let k = (told_of None input).answer in
       asked _ _ 12 _ _ (lt-ltb s switch_count known)
       ∙ by_eq k 0
       (λ good. asked _ _ k _ _ (eq-eqb k 0 good) ∙ none_asked _ _ ∙ rw good)

@@ -6,17 +6,17 @@ use Prim.Native.Nat.{ℕ, ◌<◌}
 use native.Mathlib.Omega.{arith}
 use lib.ListN.{take}
 use lib.Seq.{take-take}
+use Rattle.std.specs.Prelude.{None}
 use Rattle.rehearsal.specs.Limits.{longest_input}
 use Rattle.rehearsal.specs.Deeds.{told_of}
-use Rattle.rehearsal.specs.declared.Dropped.TheVariants.{Nobody}
 use Rattle.rehearsal.proofs.Cut.{looked, cut_told}
 use Rattle.feed.specs.Rules.{applied_of}
 
 pub cut-applied : (s k : ℕ) (input : List ℕ) → longest_input < k → applied_of s (take k input) ≡ applied_of s input
 unfolding applied_of
 cut-applied s k input more =
-    let same : told_of Nobody (take k input) ≡ told_of Nobody input =
-    sym (cut_told Nobody (take k input))
-    ∙ ap (told_of Nobody) (take-take looked k input (omega arith))
-    ∙ cut_told Nobody input in
+    let same : told_of None (take k input) ≡ told_of None input =
+    sym (cut_told None (take k input))
+    ∙ ap (told_of None) (take-take looked k input (omega arith))
+    ∙ cut_told None input in
     rw same

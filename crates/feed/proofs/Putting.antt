@@ -1,16 +1,16 @@
 -- The FLOW_MODs of rules put one after another: how long they are, and what the loops over the rules have done so far.
 use mathlib.Core.Path.{◌≡◌, refl, sym, ap, ◌∙◌}
-use mathlib.Core.Bool.{true, false}
+use mathlib.Core.Bool.{Bool, true, false}
 use mathlib.Core.List.{List, [], ◌∷◌, ◌++◌, append_assoc, append-nil}
 use Prim.Native.Nat.{ℕ, ◌+◌, ◌*◌, ◌≤◌, ◌<◌}
 use native.Mathlib.Numerals.{add-one}
 use native.Mathlib.Omega.{arith}
 use borrow.Author.Tests.{le-leb, lt-leb}
 use lib.Dec.{leb}
-use lib.ListN.{length, take, drop, get_or, length-append, take-append-drop}
-use lib.Seq.{sets-eq, length-sets, take-suc, take_all, take-take, get_or-take, length-take-le}
+use lib.ListN.{length, take, drop, get_or, length-append, length-take, take-append-drop}
+use lib.Seq.{sets-eq, length-sets, take-suc, take_all}
+use Rattle.std.specs.List.{list_all}
 use Rattle.answer.proofs.Asked.{none_asked, refused, asked}
-use Rattle.answer.proofs.Bools.{by_le}
 use Rattle.lists.specs.Arrays.{every}
 use Rattle.lists.specs.Frames.{placed, placed_whole}
 use Rattle.lists.proofs.Frames.{Filled, nothing_put, put-behind}
@@ -22,7 +22,7 @@ use Rattle.openflow.specs.declared.Written.{Written}
 use Rattle.openflow.proofs.Lengths.{bytes-length, length_most}
 use Rattle.openflow.proofs.Frames.{done, refusal, all_written}
 use Rattle.switch.specs.declared.Slot.{Slot}
-use Rattle.feed.specs.Mods.{used_of, is_formed, mods_of, mods_written}
+use Rattle.feed.specs.Mods.{is_formed, mods_of, mods_written}
 
 -- at most 96 bytes each
 pub mods_few : (xs : List Slot) → length (mods_of xs) ≤ 96 * length xs
@@ -44,30 +44,20 @@ mods_within i xs =
     let parts = ap mods_of (sym (take-append-drop i xs)) ∙ mods_append (take i xs) (drop i xs) in
     omega (arith, ap length parts ∙ length-append (mods_of (take i xs)) (mods_of (drop i xs)))
 
--- a count past the places counts as all of them
-pub used_rules : (rules : List Slot) (count : ℕ) {n : ℕ} → length rules ≡ 4096 → n ≡ used_of count
-    → (n ≤ 4096) × (take n rules ≡ take count rules)
-used_rules rules count all is =
-    rw is
-    (by_le count 4096
-    (λ h. rw (le-leb count 4096 h) (h, refl))
-    (λ h. rw (lt-leb count 4096 h)
-    (omega arith, take_all 4096 rules (omega arith) ∙ sym (take_all count rules (omega arith)))))
-
--- the loop that measures: the bytes of the first i
-pub record Measured (rules : List Slot) (count i total : ℕ) : Type 0 where
-  pub within : i ≤ count
-  pub is : total ≡ length (mods_of (take i rules))
+-- the library's test of every element
+pub list_all-every : {A : Type 0} (f : A → Bool) (l : List A) → list_all f l ≡ every f l
+unfolding every
+list_all-every f [] = refl
+list_all-every f (x ∷ l) = rw (list_all-every f l)
 
 -- the loop that puts: the FLOW_MODs of the first i stand at the start of the output p, which is m now
-pub record Put (rules : List Slot) (count : ℕ) (p : List ℕ) (i at : ℕ) (m : List ℕ) : Type 0 where
-  pub within : i ≤ count
+pub record Put (rules : List Slot) (p : List ℕ) (i at : ℕ) (m : List ℕ) : Type 0 where
   pub is : at ≡ length (mods_of (take i rules))
   pub filled : Filled p 0 (mods_of (take i rules)) m
 
-module _ (rules : List Slot) (count : ℕ) (all : count ≤ length rules) where
+module _ (rules : List Slot) where
   -- one more of them
-  one_more : (i : ℕ) → i < count → (x : Slot)
+  one_more : (i : ℕ) → i < length rules → (x : Slot)
       → mods_of (take (i + 1) rules) ≡ mods_of (take i rules) ++ bytes_of (get_or rules i x).number (get_or rules i x).rule
   unfolding mods_of
   one_more i h x =
@@ -75,53 +65,31 @@ module _ (rules : List Slot) (count : ℕ) (all : count ≤ length rules) where
       rw (add-one, take-suc rules i x (omega arith), mods_append (take i rules) (y ∷ []))
       (ap (λ (l : List ℕ). mods_of (take i rules) ++ l) (append-nil (bytes_of y.number y.rule)))
 
-  -- turns of the loop that measures
-  pub none_measured : Measured rules count 0 0
-  unfolding mods_of
-  none_measured = record { within = omega arith; is = refl }
-
-  module _ {i total : ℕ} (before : Measured rules count i total) where
-    pub measured_few : total ≤ 96 * i
-    measured_few =
-        omega (
-          arith,
-          before.is,
-          before.within,
-          mods_few (take i rules),
-          length-take-le i rules (omega (arith, before.within)),
-        )
-
-    pub next_measured : i < count → (x : Slot) {n : ℕ} → n ≡ length_of (get_or rules i x).rule
-        → (n ≤ 96) × Measured rules count (i + 1) (total + n)
-    next_measured h x {n} e =
-        let y = get_or rules i x in
-        let bytes = bytes_of y.number y.rule in
-        let more = ap length (one_more i h x) ∙ length-append (mods_of (take i rules)) bytes in (
-          omega (arith, length_most y.rule),
-          record {
-            within = omega arith;
-            is = omega (arith, more, before.is, bytes-length y.number y.rule);
-          },
-        )
-
-    pub all_measured : count ≤ i → total ≡ length (mods_of (take count rules))
-    all_measured h =
-        let e : i ≡ count = omega (arith, before.within) in
-        rw (← e) before.is
+  -- a turn of the loop that measures: the bytes of one more, and how many there are at most
+  pub next_measured : {i total : ℕ} → total ≡ length (mods_of (take i rules)) → i < length rules → (x : Slot) {n : ℕ}
+      → n ≡ length_of (get_or rules i x).rule
+      → (total + n ≤ 96 * (i + 1)) × (total + n ≡ length (mods_of (take (i + 1) rules)))
+  next_measured {i} {total} before h x {n} e =
+      let y = get_or rules i x in
+      let bytes = bytes_of y.number y.rule in
+      let more = ap length (one_more i h x) ∙ length-append (mods_of (take i rules)) bytes in (
+        omega (arith, before, mods_few (take i rules), length-take i rules, length_most y.rule),
+        omega (arith, more, before, bytes-length y.number y.rule),
+      )
 
   -- turns of the loop that puts
-  module _ (formed : every is_formed (take count rules) ≡ true) (p : List ℕ)
-      (room : length (mods_of (take count rules)) ≤ length p) where
-    pub none_put : Put rules count p 0 0 p
+  module _ (formed : every is_formed rules ≡ true) (p : List ℕ)
+      (room : length (mods_of rules) ≤ length p) where
+    pub none_put : Put rules p 0 0 p
     unfolding mods_of
-    none_put = record { within = omega arith; is = refl; filled = nothing_put p 0 }
+    none_put = record { is = refl; filled = nothing_put p 0 }
 
-    module _ {i at : ℕ} {m : List ℕ} (before : Put rules count p i at m) where
+    module _ {i at : ℕ} {m : List ℕ} (before : Put rules p i at m) where
       pub put-length : length m ≡ length p
       put-length = ap length before.filled.is ∙ length-sets p 0 (mods_of (take i rules))
 
       -- a turn: it fits, and is put behind the others
-      module _ (h : i < count) (z : Slot) {w : Written} {n : List ℕ}
+      module _ (h : i < length rules) (z : Slot) {w : Written} {n : List ℕ}
           (says : (w, n) ≡ flow_mod_written (get_or rules i z).number (get_or rules i z).rule m at) where
         abbrev slot : Slot
         slot = get_or rules i z
@@ -132,16 +100,13 @@ module _ (rules : List Slot) (count : ℕ) (all : count ≤ length rules) where
         up_to : length (mods_of (take i rules)) + length bytes ≤ length p
         up_to =
             let more = ap length (one_more i h z) ∙ length-append (mods_of (take i rules)) bytes in
-            let part = ap (λ (xs : List Slot). length (mods_of xs)) (take-take (i + 1) count rules (omega arith)) in
-            omega (arith, more, part, mods_within (i + 1) (take count rules))
+            omega (arith, more, mods_within (i + 1) rules)
 
         fits : at + length_of slot.rule ≤ length m
         fits = omega (arith, up_to, before.is, bytes-length slot.number slot.rule, put-length)
 
         well : well_formed slot.rule ≡ true
-        well =
-            ap is_formed (sym (get_or-take count rules i z h))
-            ∙ every_at is_formed (take count rules) i z formed (rw (length-take-le count rules all) h)
+        well = every_at is_formed rules i z formed h
 
         wrote : ◌≡◌ {A = Written × List ℕ} (w, n) (done slot.rule, placed bytes m at)
         wrote = says ∙ all_written slot.number slot.rule m at well fits
@@ -152,7 +117,7 @@ module _ (rules : List Slot) (count : ℕ) (all : count ≤ length rules) where
         pub wrote-within : at + w.length ≤ length p
         wrote-within = omega (arith, fits, wrote-length, put-length)
 
-        pub next-put : Put rules count p (i + 1) (at + w.length) n
+        pub next-put : Put rules p (i + 1) (at + w.length) n
         next-put =
             let size = bytes-length slot.number slot.rule in
             let long = wrote-length in
@@ -162,17 +127,15 @@ module _ (rules : List Slot) (count : ℕ) (all : count ≤ length rules) where
             le-leb (at + length bytes) (length m) (omega (arith, fits)) in
             let placing : n ≡ placed_whole bytes m at = ap (λ (r : Written × List ℕ). r.1) wrote ∙ rw there in
             record {
-              within = omega arith;
               is = omega (arith, more, before.is);
               filled = rw (one_more i h z) (put-behind bytes at before.filled start (omega (arith, up_to)) placing);
             }
 
-      pub all_put : count ≤ i → m ≡ mods_of (take count rules) ++ drop (length (mods_of (take count rules))) p
+      pub all_put : length rules ≤ i → m ≡ mods_of rules ++ drop (length (mods_of rules)) p
       all_put h =
-          let e : i ≡ count = omega (arith, before.within) in
-          let zero : 0 + length (mods_of (take count rules)) ≡ length (mods_of (take count rules)) = omega arith in
-          let is = rw e at before.filled.is in
-          is ∙ sets-eq (mods_of (take count rules)) p 0 (omega arith) ∙ rw zero
+          let zero : 0 + length (mods_of rules) ≡ length (mods_of rules) = omega arith in
+          let is = rw (take_all i rules h) at before.filled.is in
+          is ∙ sets-eq (mods_of rules) p 0 (omega arith) ∙ rw zero
 
 -- what is written, by the first question whose answer is no
 module _ (xs : List Slot) (out : List ℕ) where

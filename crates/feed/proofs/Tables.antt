@@ -4,6 +4,7 @@ use mathlib.Core.Path.{◌≡◌, refl, sym, ap, ◌∙◌}
 use mathlib.Core.Bool.{true}
 use mathlib.Core.List.{List, []}
 use Prim.Native.Nat.{ℕ, ◌<◌}
+use Rattle.std.specs.Prelude.{None}
 use Rattle.answer.specs.Limits.{switch_count}
 use Rattle.answer.proofs.Asked.{reply-keeps}
 use Rattle.answer.proofs.Bools.{by_le}
@@ -23,7 +24,6 @@ use Rattle.rehearsal.specs.Worlds.{world_of}
 use Rattle.rehearsal.specs.Effects.{no_switch}
 use Rattle.rehearsal.specs.Scripts.{controllers_in, book_in, script_in, world_in}
 use Rattle.rehearsal.specs.Deeds.{broken_deed, deeds_from}
-use Rattle.rehearsal.specs.declared.Dropped.TheVariants.{Nobody}
 use Rattle.rehearsal.proofs.Doing.{switch_at}
 use Rattle.rehearsal.proofs.Filling.{each-length, each_at}
 use Rattle.rehearsal.proofs.Telling.{told_cases}
@@ -54,13 +54,13 @@ told_takes : (s : ℕ) (input : List ℕ) → s < switch_count
     → Takes no_switch (rules_applied s (deeds_of input)) (switch_after s input)
 unfolding rules_applied
 told_takes s input known =
-    let deeds = (deeds_from Nobody 0 (script_in input) (world_in input)).0 in
+    let deeds = (deeds_from None 0 (script_in input) (world_in input)).0 in
     let none = store_of no_plans in
     told_cases input
     (λ q no is. rw is (from-fresh s 0 none known [] (no_rule_takes (switch_at s (world_of 0 none)))))
     (λ is few. rw (is, pad-take most_lines (broken_deed 0) deeds few)
     (from-fresh s (controllers_in input) (book_in input).playbook known (rules_applied s deeds)
-    (script_takes Nobody s 0 (script_in input) (world_in input)
+    (script_takes None s 0 (script_in input) (world_in input)
     (rw (each-length (λ (i : ℕ). (setup_of i (controllers_in input)).state) switch_count) known))))
 
 module _ (s : ℕ) (input : List ℕ) where

@@ -1,7 +1,7 @@
 -- The FLOW_MODs of numbered rules, one after another, written to the start of an output (document 02, N1). A malformed
 -- rule gets 15 first, then a short output 25.
 use Rattle.std.specs.Prelude.{ℕ, ◌*◌, Bool, List, [], ◌∷◌, ◌++◌, leb, length, drop}
-use Rattle.answer.specs.Ask.{pick, reply}
+use Rattle.answer.specs.Ask.{reply}
 use Rattle.lists.specs.Arrays.{every}
 use Rattle.flow.specs.Rules.{well_formed}
 use Rattle.openflow.specs.FlowMods.{bytes_of}
@@ -12,10 +12,6 @@ use Rattle.rehearsal.specs.Limits.{most_lines}
 -- bytes that the FLOW_MODs of a rehearsal have at most: 96 each
 abbrev pub most_fed : ℕ
 most_fed = most_lines * 96
-
--- how many of the places are in use: a count past them counts as all
-abbrev pub used_of : ℕ → ℕ
-used_of count = pick (leb count most_lines) count most_lines
 
 -- whether a numbered rule is well formed
 abbrev pub is_formed : Slot → Bool

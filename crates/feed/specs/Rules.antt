@@ -1,6 +1,6 @@
 -- The rules that a switch applied in a rehearsal (document 02, N1: after a change is applied, its rule is written):
 -- those of the shares that it answered 1, each with the number of its change, in the order of applying.
-use Rattle.std.specs.Prelude.{ℕ, Bool, ◌&&◌, List, [], ◌∷◌, map, ltb, eqb, length, take, get_or}
+use Rattle.std.specs.Prelude.{ℕ, Bool, ◌&&◌, None, List, [], ◌∷◌, map, ltb, eqb, length, take, get_or}
 use Rattle.answer.specs.Ask.{pick, reply}
 use Rattle.answer.specs.Limits.{switch_count}
 use Rattle.lists.specs.Arrays.{pad}
@@ -13,7 +13,6 @@ use Rattle.rehearsal.specs.Deeds.{told_of}
 use Rattle.rehearsal.specs.Effects.{no_switch}
 use Rattle.rehearsal.specs.Limits.{most_lines}
 use Rattle.rehearsal.specs.declared.Deed.{Deed}
-use Rattle.rehearsal.specs.declared.Dropped.TheVariants.{Nobody}
 use Rattle.feed.specs.declared.Applied.{Applied}
 
 -- whether a record had a rule applied at a switch: answer 1
@@ -33,7 +32,7 @@ applied_by k rules = record { answer = k; rules = pad most_lines empty_slot rule
 -- script
 unfoldable pub applied_of : ℕ → List ℕ → Applied
 applied_of s input =
-    let told = told_of Nobody input in
+    let told = told_of None input in
     reply ((12, ltb s switch_count) ∷ (told.answer, eqb told.answer 0) ∷ []) (λ k. applied_by k [])
     (applied_by 0 (rules_applied s (take told.count told.deeds)))
 
@@ -51,4 +50,4 @@ numbers_of rules = map (λ x. x.number) rules
 
 -- for laws: a switch after the rehearsal of an input
 abbrev pub switch_after : ℕ → List ℕ → Switch
-switch_after s input = get_or (told_of Nobody input).world.switches s no_switch
+switch_after s input = get_or (told_of None input).world.switches s no_switch

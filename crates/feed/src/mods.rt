@@ -1,70 +1,51 @@
 // The FLOW_MODs of the rules that a switch applied, one after another.
-ghost use Rattle.std.specs.Prelude.{◌≡◌, true, ◌++◌, ◌≤◌, length, take, drop};
+ghost use Rattle.std.specs.Prelude.{◌≡◌, true, ◌++◌, ◌≤◌, length, drop};
 ghost use Rattle.lists.specs.Arrays.{every};
 ghost use Rattle.rehearsal.specs.Limits.{most_lines};
 ghost use Rattle.feed.specs.Rules.{rules_in};
-ghost use Rattle.feed.specs.Mods.{used_of, is_formed, mods_of, mods_written};
+ghost use Rattle.feed.specs.Mods.{is_formed, mods_of, mods_written};
 
 use crate::Applied;
 use openflow::Written;
-use rehearsal::DEEDS;
 use switch::Slot;
 
-// How many of the places are in use: a count past them counts as all.
-fn used(count: usize) -> usize
-    ensures { result ≡ used_of count }
-{
-    if count <= DEEDS { count } else { DEEDS }
-}
-
-// Whether each of the first rules is well formed.
-fn all_formed(rules: [Slot; DEEDS], count: usize) -> bool
-    requires { count ≤ most_lines }
-    ensures { result ≡ every is_formed (take count rules) }
-{
-    let mut i: usize = 0;
-    while i < count {
-        let slot = rules[i];
-        let rule = slot.rule;
-        if !flow::well_formed(rule) {
-            return false;
-        }
-        i += 1;
+impl Applied {
+    // The rules in use; a count past the places counts as all of them.
+    fn in_use(&self) -> &[Slot]
+        ensures { result.now ≡ rules_in self.now }
+    {
+        &self.rules[..self.count.min(rehearsal::DEEDS)]
     }
-    true
 }
 
-// How many bytes the FLOW_MODs of the first rules have.
-fn measure(rules: [Slot; DEEDS], count: usize) -> usize
-    requires { count ≤ most_lines }
-    ensures { result ≡ length (mods_of (take count rules)) }
+// Whether each rule is well formed.
+fn all_formed(rules: &[Slot]) -> bool
+    ensures { result ≡ every is_formed rules.now }
 {
-    let mut total: usize = 0;
-    let mut i: usize = 0;
-    while i < count {
-        let slot = rules[i];
-        let rule = slot.rule;
-        total += openflow::length_of(rule);
-        i += 1;
+    rules.iter().all(|slot| flow::well_formed(slot.rule))
+}
+
+// How many bytes the FLOW_MODs of rules have.
+fn measure(rules: &[Slot]) -> usize
+    requires { length rules.now ≤ most_lines }
+    ensures { result ≡ length (mods_of rules.now) }
+{
+    let mut total = 0;
+    for slot in rules {
+        total += openflow::length_of(slot.rule);
     }
     total
 }
 
-// The FLOW_MODs of the first rules, put to the start of an output with room for them.
-fn put_all(rules: [Slot; DEEDS], count: usize, out: &mut [u8])
-    requires { (count ≤ most_lines) × (every is_formed (take count rules) ≡ true)
-        × (length (mods_of (take count rules)) ≤ length out.old) }
-    ensures { out.new
-        ≡ mods_of (take count rules) ++ drop (length (mods_of (take count rules))) out.old }
+// The FLOW_MODs of rules, put to the start of an output with room for them.
+fn put_all(rules: &[Slot], out: &mut [u8])
+    requires formed { every is_formed rules.now ≡ true }
+    requires room { length (mods_of rules.now) ≤ length out.old }
+    ensures { out.new ≡ mods_of rules.now ++ drop (length (mods_of rules.now)) out.old }
 {
-    let mut at: usize = 0;
-    let mut i: usize = 0;
-    while i < count {
-        let slot = rules[i];
-        let rule = slot.rule;
-        let written = openflow::write_flow_mod(slot.number, rule, out, at);
-        at += written.length;
-        i += 1;
+    let mut at = 0;
+    for slot in rules {
+        at += openflow::write_flow_mod(slot.number, slot.rule, out, at).length;
     }
 }
 
@@ -72,22 +53,21 @@ fn put_all(rules: [Slot; DEEDS], count: usize, out: &mut [u8])
 pub fn flow_mods(a: Applied, out: &mut [u8]) -> Written
     ensures { (result, out.new) ≡ mods_written (rules_in a) out.old }
 {
-    let rules = a.rules;
-    let count = used(a.count);
-    if !all_formed(rules, count) {
+    let rules = a.in_use();
+    if !all_formed(rules) {
         return Written {
             answer: answer::MALFORMED_RULE,
             length: 0,
         };
     }
-    let size = measure(rules, count);
+    let size = measure(rules);
     if out.len() < size {
         return Written {
             answer: answer::DOES_NOT_FIT,
             length: 0,
         };
     }
-    put_all(rules, count, out);
+    put_all(rules, out);
     Written {
         answer: answer::DONE,
         length: size,

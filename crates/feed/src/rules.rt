@@ -6,18 +6,14 @@ ghost use Rattle.feed.specs.Rules.{is_applied, applied_of};
 
 use crate::Applied;
 use flow::{Action, Rule};
-use rehearsal::{DEEDS, Deed, Dropped};
+use rehearsal::{DEEDS, Deed};
 use switch::Slot;
 
 // Whether a record had a rule applied at a switch.
-fn is_applied(d: Deed, switch: u8) -> bool
-    ensures { result ≡ is_applied switch d }
+fn is_applied(d: &Deed, switch: u8) -> bool
+    ensures { result ≡ is_applied switch d.now }
 {
-    if d.answer == answer::APPLIED {
-        d.switch == switch
-    } else {
-        false
-    }
+    d.answer == answer::APPLIED && d.switch == switch
 }
 
 // An array with no rule in it.
@@ -44,26 +40,22 @@ pub fn applied_at(switch: u8, input: &[u8]) -> Applied
     if answer::limits::SWITCHES <= switch {
         return Applied {
             answer: answer::UNKNOWN_ID,
-            rules: rules,
+            rules,
             count: 0,
         };
     }
-    let told = rehearsal::tell(Dropped::Nobody, input);
-    let mut count: usize = 0;
-    let mut i: usize = 0;
-    while i < told.count {
-        let deed = told.deeds[i];
+    let told = rehearsal::tell(None, input);
+    let mut count = 0;
+    let deeds = &told.deeds[..told.count];
+    for deed in deeds {
         if is_applied(deed, switch) {
-            let wish = deed.wish;
-            let slot = wish.slot;
-            rules[count] = slot;
+            rules[count] = deed.wish.slot;
             count += 1;
         }
-        i += 1;
     }
     Applied {
         answer: told.answer,
-        rules: rules,
-        count: count,
+        rules,
+        count,
     }
 }

@@ -17,8 +17,7 @@ use Rattle.flow.specs.declared.Action.{Action}
 use Rattle.flow.specs.declared.Action.TheVariants.{Remove, Set}
 use Rattle.flow.specs.declared.Entry.{Entry}
 use Rattle.flow.specs.declared.Rule.{Rule}
-use Rattle.flow.specs.declared.Found.{Found}
-use Rattle.flow.specs.declared.Found.TheVariants.{Port}
+use Rattle.std.specs.Prelude.{Option, Some}
 use Rattle.flow.proofs.Order.{key_sound, key_mine, key_is}
 use Rattle.flow.proofs.Acts.{Acts, past, over, own, acts}
 use Rattle.flow.proofs.Kept.{Ordered, apply_ordered}
@@ -29,7 +28,7 @@ use Rattle.flow.proofs.Ports.{NoLongerKey, port_no_longer, Answers, unanswered, 
 use Rattle.flow.proofs.Ports.{answers_one, answers-same, lookup_answers}
 
 -- the ports after a rule
-abbrev pub ports_after : Rule → List Entry → Key → Found
+abbrev pub ports_after : Rule → List Entry → Key → Option ℕ
 ports_after r es k = pick (same_key (rule_key r) k) (port_after r.action) (port_at k es)
 
 -- the entries shorter than n
@@ -93,7 +92,7 @@ module _ (address : ℕ) (r : Rule) (es : List Entry) (h : Ordered es) (w : well
       reach : reaches address (entry_key (entry_at es i)) ≡ true
       reach = entry_reaches address es h i inside c
 
-      go : {f : Found} → Answers address (λ k. port_at k es) f → lookup_of address (apply_rule r es) ≡ f
+      go : {f : Option ℕ} → Answers address (λ k. port_at k es) f → lookup_of address (apply_rule r es) ≡ f
       go (unanswered n u) = absurd (some-port (sym (port_at_lem es h i inside) ∙ u _ reach))
       go (answered v) =
           let long : (entry_at es i).length ≤ v.key.1 = v.longest _ _ reach (port_at_lem es h i inside) in
@@ -112,7 +111,7 @@ module _ (address : ℕ) (r : Rule) (es : List Entry) (h : Ordered es) (w : well
     own_reach = and_join _ _ (and_parts (prefix_ok (rule_key r)) _ w).0 c
 
     -- the rule sets a port and covers the address, and no covering entry is longer: its port
-    pub after-set : (port : ℕ) → r.action ≡ Set port → lookup_of address (apply_rule r es) ≡ Port port
+    pub after-set : (port : ℕ) → r.action ≡ Set port → lookup_of address (apply_rule r es) ≡ Some port
     after-set port a =
         answers_one lookup_after (answered (record {
           key = rule_key r;

@@ -1,4 +1,4 @@
--- Laws of flow tables. Places and Padded are for this crate's own functions.
+-- Laws of flow tables. Those that are not pub are for this crate's own functions.
 pub mod Order
 pub mod Actions
 pub mod Acts
@@ -9,3 +9,7 @@ pub mod Ports
 pub mod After
 mod Places
 mod Padded
+mod Tests
+mod Moves
+mod Bests
+mod Searched

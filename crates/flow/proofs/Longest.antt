@@ -12,12 +12,11 @@ use Rattle.answer.proofs.Bools.{by_bool, tf}
 use Rattle.flow.specs.Rules.{entry_key}
 use Rattle.flow.specs.Lookups.{covers, Best, better, best_of, lookup_of}
 use Rattle.flow.specs.declared.Entry.{Entry}
-use Rattle.flow.specs.declared.Found.{Found}
-use Rattle.flow.specs.declared.Found.TheVariants.{Port, Nothing}
+use Rattle.std.specs.Prelude.{Option, Some, None}
 use Rattle.flow.proofs.Keys.{entry_at}
 
 -- a port is not nothing
-pub some-port : {p : ℕ} → Port p ≡ Nothing → ⊥
+pub some-port : {p : ℕ} → Some p ≡ None → ⊥
 some-port h = let z : ◌≡◌ {A = ℕ} 0 1 = cc in omega arith
 
 -- a statement of every entry
@@ -33,16 +32,16 @@ abbrev pub NoLonger : ℕ → ℕ → List Entry → Type 0
 NoLonger address n es = Each (λ e. covers (entry_key e) address ≡ true → e.length ≤ n) es
 
 -- the port of an entry that covers the address, and no covering entry is longer
-pub record Longest (address : ℕ) (es : List Entry) (f : Found) : Type 0 where
+pub record Longest (address : ℕ) (es : List Entry) (f : Option ℕ) : Type 0 where
   pub place : ℕ
   pub inside : place < length es
   pub covering : covers (entry_key (entry_at es place)) address ≡ true
-  pub port : f ≡ Port (entry_at es place).port
+  pub port : f ≡ Some (entry_at es place).port
   pub longest : NoLonger address (entry_at es place).length es
 
 -- the one or the other, of what was found with its length
 pub data Looked (address : ℕ) (es : List Entry) (b : Best) : Type 0 where
-  uncovered : b ≡ (Nothing, 0) → Uncovered address es → Looked address es b
+  uncovered : b ≡ (None, 0) → Uncovered address es → Looked address es b
   covered : (w : Longest address es b.0) → b.1 ≡ (entry_at es w.place).length → Looked address es b
 
 module _ (address : ℕ) (e : Entry) (es : List Entry) where
@@ -57,7 +56,7 @@ module _ (address : ℕ) (e : Entry) (es : List Entry) where
 
   -- the longest is the first entry, or another
   here : covers (entry_key e) address ≡ true → NoLonger address e.length es
-      → Looked address (e ∷ es) (Port e.port, e.length)
+      → Looked address (e ∷ es) (Some e.port, e.length)
   here c l =
       covered (record {
         place = 0;
@@ -100,25 +99,25 @@ looked address (e ∷ es) =
     (λ c. rw c (past_first address e es (best_of address es) c (looked address es)))
 
 -- nothing is found exactly if no entry covers the address
-pub lookup_nothing : (address : ℕ) (es : List Entry) → lookup_of address es ≡ Nothing → Uncovered address es
+pub lookup_nothing : (address : ℕ) (es : List Entry) → lookup_of address es ≡ None → Uncovered address es
 lookup_nothing address es = go (looked address es)
   where
-    go : {b : Best} → Looked address es b → b.0 ≡ Nothing → Uncovered address es
+    go : {b : Best} → Looked address es b → b.0 ≡ None → Uncovered address es
     go (uncovered n u) h = u
     go (covered w n) h = absurd (some-port (sym w.port ∙ h))
 
-pub nothing_lookup : (address : ℕ) (es : List Entry) → Uncovered address es → lookup_of address es ≡ Nothing
+pub nothing_lookup : (address : ℕ) (es : List Entry) → Uncovered address es → lookup_of address es ≡ None
 nothing_lookup address es u = go (looked address es)
   where
-    go : {b : Best} → Looked address es b → b.0 ≡ Nothing
+    go : {b : Best} → Looked address es b → b.0 ≡ None
     go (uncovered n v) = ap (λ (x : Best). x.0) n
     go (covered w n) = tf w.covering (u w.place w.inside)
 
 -- else the port of an entry that covers it, and no covering entry is longer
-pub lookup_port : (address : ℕ) (es : List Entry) → (lookup_of address es ≡ Nothing → ⊥)
+pub lookup_port : (address : ℕ) (es : List Entry) → (lookup_of address es ≡ None → ⊥)
     → Longest address es (lookup_of address es)
 lookup_port address es = go (looked address es)
   where
-    go : {b : Best} → Looked address es b → (b.0 ≡ Nothing → ⊥) → Longest address es b.0
+    go : {b : Best} → Looked address es b → (b.0 ≡ None → ⊥) → Longest address es b.0
     go (uncovered n u) h = absurd (h (ap (λ (x : Best). x.0) n))
     go (covered w n) h = w

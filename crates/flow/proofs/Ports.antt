@@ -20,8 +20,7 @@ use Rattle.flow.specs.declared.Action.{Action}
 use Rattle.flow.specs.declared.Action.TheVariants.{Remove, Set}
 use Rattle.flow.specs.declared.Entry.{Entry}
 use Rattle.flow.specs.declared.Rule.{Rule}
-use Rattle.flow.specs.declared.Found.{Found}
-use Rattle.flow.specs.declared.Found.TheVariants.{Port, Nothing}
+use Rattle.std.specs.Prelude.{Option, Some, None}
 use Rattle.flow.proofs.Order.{key_sound, key_mine, apart}
 use Rattle.flow.proofs.Acts.{fresh, Acts, past, over, own, acts}
 use Rattle.flow.proofs.Kept.{Ordered, parts, none_first, first-after}
@@ -29,27 +28,27 @@ use Rattle.flow.proofs.Keys.{entry_at, Placed, has-entry, entry_has}
 use Rattle.flow.proofs.Longest.{some-port, Each, Uncovered, NoLonger, Looked, uncovered, covered, looked}
 
 -- the port of an entry by its key
-unfoldable pub port_at : Key → List Entry → Found
-port_at k [] = Nothing
-port_at k (e ∷ es) = pick (same_key (entry_key e) k) (Port e.port) (port_at k es)
+unfoldable pub port_at : Key → List Entry → Option ℕ
+port_at k [] = None
+port_at k (e ∷ es) = pick (same_key (entry_key e) k) (Some e.port) (port_at k es)
 
 -- the port of a rule's key once it is applied
-abbrev pub port_after : Action → Found
-port_after Remove = Nothing
-port_after (Set port) = Port port
+abbrev pub port_after : Action → Option ℕ
+port_after Remove = None
+port_after (Set port) = Some port
 
 -- a key with no entry has no port, so one with a port has an entry
-pub no_port : (k : Key) (es : List Entry) → has_entry k es ≡ false → port_at k es ≡ Nothing
+pub no_port : (k : Key) (es : List Entry) → has_entry k es ≡ false → port_at k es ≡ None
 unfolding among port_at
 no_port k [] h = refl
 no_port k (e ∷ es) h = let t = or_none (same_key (entry_key e) k) _ h in rw t.0 (no_port k es t.1)
 
-pub port-entry : (k : Key) (es : List Entry) {port : ℕ} → port_at k es ≡ Port port → Placed k es
+pub port-entry : (k : Key) (es : List Entry) {port : ℕ} → port_at k es ≡ Some port → Placed k es
 port-entry k es h =
     has-entry k es (by_bool (has_entry k es) (λ e. e) (λ n. absurd (some-port (sym h ∙ no_port k es n))))
 
 -- each entry's port is found by its key
-pub port_at_lem : (es : List Entry) → Ordered es → Each (λ e. port_at (entry_key e) es ≡ Port e.port) es
+pub port_at_lem : (es : List Entry) → Ordered es → Each (λ e. port_at (entry_key e) es ≡ Some e.port) es
 unfolding port_at
 port_at_lem [] h i l = absurd (omega arith)
 port_at_lem (e ∷ es) h zero l = rw (key_mine (entry_key e))
@@ -80,7 +79,7 @@ acts_port : (a : Action) (j k : Key) {es fs : List Entry} → Acts a k es fs →
     → port_at j fs ≡ pick (same_key k j) (port_after a) (port_at j es)
 unfolding port_at
 acts_port a j k (past {e} {es} b s) h =
-    ap (λ (f : Found). pick (same_key (entry_key e) j) (Port e.port) f) (acts_port a j k s (parts e es h).rest)
+    ap (λ (f : Option ℕ). pick (same_key (entry_key e) j) (Some e.port) f) (acts_port a j k s (parts e es h).rest)
     ∙ choices (same_key (entry_key e) j) (same_key k j) _ _ _
     (λ p q. apart (entry_key e) k b (key_sound (entry_key e) j p ∙ sym (key_sound k j q)))
 acts_port a j k (over {e} {es} s) h =
@@ -124,25 +123,25 @@ entry_fit (e ∷ es) h zero l = (parts e es h).fit
 entry_fit (e ∷ es) h (suc i) l = entry_fit es (parts e es h).rest i (omega arith)
 
 -- no key that covers the address and has a port is longer than n
-abbrev pub NoLongerKey : ℕ → ℕ → (Key → Found) → Type 0
-NoLongerKey address n ports = (k : Key) (p : ℕ) → reaches address k ≡ true → ports k ≡ Port p → k.1 ≤ n
+abbrev pub NoLongerKey : ℕ → ℕ → (Key → Option ℕ) → Type 0
+NoLongerKey address n ports = (k : Key) (p : ℕ) → reaches address k ≡ true → ports k ≡ Some p → k.1 ≤ n
 
 -- the port of a key that covers the address, and no such key is longer
-pub record Answer (address : ℕ) (ports : Key → Found) (f : Found) : Type 0 where
+pub record Answer (address : ℕ) (ports : Key → Option ℕ) (f : Option ℕ) : Type 0 where
   pub key : Key
   pub port : ℕ
   pub reaching : reaches address key ≡ true
-  pub has : ports key ≡ Port port
-  pub found : f ≡ Port port
+  pub has : ports key ≡ Some port
+  pub found : f ≡ Some port
   pub longest : NoLongerKey address key.1 ports
 
 -- what the ports of all keys answer to the lookup of an address
-pub data Answers (address : ℕ) (ports : Key → Found) (f : Found) : Type 0 where
-  unanswered : f ≡ Nothing → ((k : Key) → reaches address k ≡ true → ports k ≡ Nothing) → Answers address ports f
+pub data Answers (address : ℕ) (ports : Key → Option ℕ) (f : Option ℕ) : Type 0 where
+  unanswered : f ≡ None → ((k : Key) → reaches address k ≡ true → ports k ≡ None) → Answers address ports f
   answered : Answer address ports f → Answers address ports f
 
 -- there is one answer
-pub answers_one : {address : ℕ} {ports : Key → Found} {f g : Found} → Answers address ports f → Answers address ports g
+pub answers_one : {address : ℕ} {ports : Key → Option ℕ} {f g : Option ℕ} → Answers address ports f → Answers address ports g
     → f ≡ g
 answers_one (unanswered n u) (unanswered m v) = n ∙ sym m
 answers_one (unanswered n u) (answered w) = absurd (some-port (sym w.has ∙ u w.key w.reaching))
@@ -154,7 +153,7 @@ answers_one {address} {ports} (answered w) (answered v) =
     w.found ∙ sym w.has ∙ ap ports e ∙ v.has ∙ sym v.found
 
 -- ports that agree on the keys that cover the address have one answer
-pub answers-same : {address : ℕ} {p q : Key → Found} {f : Found}
+pub answers-same : {address : ℕ} {p q : Key → Option ℕ} {f : Option ℕ}
     → ((k : Key) → reaches address k ≡ true → p k ≡ q k) → Answers address p f → Answers address q f
 answers-same e (unanswered n u) = unanswered n (λ k c. sym (e k c) ∙ u k c)
 answers-same e (answered w) =
@@ -173,7 +172,7 @@ module _ (address : ℕ) (es : List Entry) where
       → covers (entry_key (entry_at es e.place)) address ≡ true
   placed-covers k e c = ap (λ (j : Key). covers j address) e.key ∙ (and_parts (prefix_ok k) _ c).1
 
-  uncovered_port : Uncovered address es → (k : Key) → reaches address k ≡ true → port_at k es ≡ Nothing
+  uncovered_port : Uncovered address es → (k : Key) → reaches address k ≡ true → port_at k es ≡ None
   uncovered_port u k c =
       no_port k es (is_false (has_entry k es)
       (λ h. let e = has-entry k es h in tf (placed-covers k e c) (u e.place e.inside)))
@@ -192,7 +191,7 @@ module _ (address : ℕ) (es : List Entry) where
 
     -- a covering entry answers where no covering entry is longer
     entry-answers : (i : ℕ) → i < length es → covers (entry_key (entry_at es i)) address ≡ true
-        → NoLonger address (entry_at es i).length es → (f : Found) → f ≡ Port (entry_at es i).port
+        → NoLonger address (entry_at es i).length es → (f : Option ℕ) → f ≡ Some (entry_at es i).port
         → Answers address (λ k. port_at k es) f
     entry-answers i inside c l f found =
         answered (record {
@@ -214,5 +213,5 @@ module _ (address : ℕ) (es : List Entry) where
 
     -- a lookup finds the port of the covering entry that no covering entry is longer than
     pub lookup_is : (i : ℕ) → i < length es → covers (entry_key (entry_at es i)) address ≡ true
-        → NoLonger address (entry_at es i).length es → lookup_of address es ≡ Port (entry_at es i).port
+        → NoLonger address (entry_at es i).length es → lookup_of address es ≡ Some (entry_at es i).port
     lookup_is i inside c l = answers_one lookup_answers (entry-answers i inside c l _ refl)

@@ -1,175 +1,96 @@
 // Room for a rule, and applying it.
-ghost use Rattle.std.specs.Prelude.{◌≡◌, ◌∷◌, ◌++◌, ◌+◌, ◌≤◌, ◌<◌, length, take, drop};
+ghost use Rattle.std.specs.Prelude.{◌≡◌, ◌≤◌, length, true};
 ghost use Rattle.answer.specs.Limits.{most_entries};
-ghost use Rattle.flow.specs.Tables.{empty_entry, entries_of, table_of};
+ghost use Rattle.flow.specs.Rules.{rule_key, entry_key};
+ghost use Rattle.flow.specs.Tables.{entries_of, table_of, head_ok};
 ghost use Rattle.flow.specs.Changes.{set_entry, drop_entry, apply_rule, changed, has_entry, room_for};
 ghost use Rattle.flow.specs.Changes.{room_answer, apply_to};
-ghost use Rattle.flow.specs.Places.{place_of, present_at};
-ghost use Rattle.lists.specs.Places.{put, del};
+ghost use Rattle.flow.specs.Places.{searched};
+ghost use Rattle.lists.specs.Arrays.{every_tail};
 
-use crate::rules::{is_before, is_same, well_formed};
-use crate::tables::{table_ok, used};
+use crate::rules::well_formed;
+use crate::tables::table_ok;
 use crate::{Action, Applied, Entry, Rule, Table};
 use answer::limits;
 
-// The first place whose entry does not come before (p, l).
-fn place(es: [Entry; limits::ENTRIES], count: usize, p: u32, l: u8) -> usize
-    requires { count ≤ most_entries }
-    ensures { result ≡ place_of (p, l) (take count es) }
+// Where the entry of a key stands, or the place where it belongs.
+fn search(entries: &[Entry], key: (u32, u8)) -> Result<usize, usize>
+    requires { every_tail head_ok entries.now ≡ true }
+    ensures { result ≡ searched key entries.now }
 {
-    let mut i: usize = 0;
-    while i < count {
-        let e = es[i];
-        if is_before(e.prefix, e.length, p, l) {
-            i += 1;
-        } else {
-            return i;
-        }
-    }
-    i
+    entries.binary_search_by_key(&key, |e| e.key())
 }
 
-// Whether the entry at a place is the one of (p, l).
-fn present(es: [Entry; limits::ENTRIES], count: usize, at: usize, p: u32, l: u8) -> bool
-    requires { count ≤ most_entries }
-    ensures { result ≡ present_at at (p, l) (take count es) }
+// The table without the entry of a key: those behind it move down, and the last place is as unused ones are.
+fn remove_entry(mut t: Table, key: (u32, u8)) -> Table
+    requires padded { t ≡ table_of (entries_of t) }
+    requires ordered { every_tail head_ok (entries_of t) ≡ true }
+    ensures { result ≡ table_of (drop_entry key (entries_of t)) }
 {
-    if at < count {
-        let e = es[at];
-        is_same(e.prefix, e.length, p, l)
-    } else {
-        false
+    if let Ok(at) = search(t.used(), key) {
+        let count = t.count;
+        t.entries.copy_within(at + 1..count, at);
+        t.entries[count - 1] = Entry::EMPTY;
+        t.count -= 1;
     }
+    t
 }
 
-// The entries with e at a place, those from there on moved up by one.
-fn inserted(
-    es: [Entry; limits::ENTRIES],
-    count: usize,
-    at: usize,
-    e: Entry,
-) -> [Entry; limits::ENTRIES]
-    requires { (at ≤ count) × (count < most_entries) }
-    ensures { result ≡ put at e (take count es) ++ drop (count + 1) es }
-{
-    let mut out = es;
-    out[at] = e;
-    let mut i = at;
-    while i < count {
-        let x = es[i];
-        out[i + 1] = x;
-        i += 1;
-    }
-    out
-}
-
-// The entries without the one at a place, those after it moved down by one.
-fn removed(es: [Entry; limits::ENTRIES], count: usize, at: usize) -> [Entry; limits::ENTRIES]
-    requires { (at < count) × (count ≤ most_entries) }
-    ensures { result ≡ del at (take count es) ++ empty_entry ∷ drop count es }
-{
-    let mut out = es;
-    let mut i = at;
-    while i + 1 < count {
-        let x = es[i + 1];
-        out[i] = x;
-        i += 1;
-    }
-    out[i] = Entry {
-        prefix: 0,
-        length: 0,
-        port: 0,
-    };
-    out
-}
-
-fn remove_entry(t: Table, p: u32, l: u8) -> Table
-    requires { t ≡ table_of (entries_of t) }
-    ensures { result ≡ table_of (drop_entry (p, l) (entries_of t)) }
-{
-    let es = t.entries;
-    let count = t.count;
-    let at = place(es, count, p, l);
-    if present(es, count, at, p, l) {
-        let out = removed(es, count, at);
-        Table {
-            entries: out,
-            count: count - 1,
-        }
-    } else {
-        t
-    }
-}
-
-fn set_entry(t: Table, e: Entry) -> Table
-    requires { (t ≡ table_of (entries_of t)) × (length (set_entry e (entries_of t)) ≤ most_entries) }
+// The table with an entry set: in the place of the one with its key, or those behind it move up.
+fn set_entry(mut t: Table, e: Entry) -> Table
+    requires padded { t ≡ table_of (entries_of t) }
+    requires ordered { every_tail head_ok (entries_of t) ≡ true }
+    requires room { length (set_entry e (entries_of t)) ≤ most_entries }
     ensures { result ≡ table_of (set_entry e (entries_of t)) }
 {
-    let es = t.entries;
-    let count = t.count;
-    let at = place(es, count, e.prefix, e.length);
-    if present(es, count, at, e.prefix, e.length) {
-        let mut u = t;
-        u.entries[at] = e;
-        u
-    } else {
-        let out = inserted(es, count, at, e);
-        Table {
-            entries: out,
-            count: count + 1,
+    match search(t.used(), e.key()) {
+        Ok(at) => t.entries[at] = e,
+        Err(at) => {
+            let count = t.count;
+            t.entries.copy_within(at..count, at + 1);
+            t.entries[at] = e;
+            t.count += 1;
         }
     }
+    t
 }
 
 // The table after a rule for which it has room.
 fn change(t: Table, rule: Rule) -> Table
-    requires { (t ≡ table_of (entries_of t)) × (length (apply_rule rule (entries_of t)) ≤ most_entries) }
+    requires padded { t ≡ table_of (entries_of t) }
+    requires ordered { every_tail head_ok (entries_of t) ≡ true }
+    requires room { length (apply_rule rule (entries_of t)) ≤ most_entries }
     ensures { result ≡ changed rule t }
 {
-    let action = rule.action;
-    match action {
-        Action::Remove => remove_entry(t, rule.prefix, rule.length),
+    match rule.action {
+        Action::Remove => remove_entry(t, rule.key()),
         Action::Set(port) => set_entry(
             t,
             Entry {
                 prefix: rule.prefix,
                 length: rule.length,
-                port: port,
+                port,
             },
         ),
     }
 }
 
-// Whether some entry is the one of (p, l).
-fn has_entry(es: [Entry; limits::ENTRIES], count: usize, p: u32, l: u8) -> bool
-    requires { count ≤ most_entries }
-    ensures { result ≡ has_entry (p, l) (take count es) }
+// Whether some entry is the one of a key.
+fn has_entry(entries: &[Entry], key: (u32, u8)) -> bool
+    ensures { result ≡ has_entry key entries.now }
 {
-    let mut i: usize = 0;
-    while i < count {
-        let e = es[i];
-        if is_same(e.prefix, e.length, p, l) {
-            return true;
-        }
-        i += 1;
-    }
-    false
+    entries.iter().any(|e| e.key() == key)
 }
 
-fn has_room(t: Table, rule: Rule) -> bool
-    ensures { result ≡ room_for rule (entries_of t) }
+// Whether a rule removes, or its entry is present, or there is room for one entry more.
+fn has_room(t: &Table, rule: Rule) -> bool
+    ensures { result ≡ room_for rule (entries_of t.now) }
 {
-    let action = rule.action;
-    match action {
+    match rule.action {
         Action::Remove => true,
         Action::Set(_) => {
-            let count = used(t);
-            if count < limits::ENTRIES {
-                true
-            } else {
-                let es = t.entries;
-                has_entry(es, count, rule.prefix, rule.length)
-            }
+            let used = t.used();
+            used.len() < limits::ENTRIES || has_entry(used, rule.key())
         }
     }
 }
@@ -178,7 +99,7 @@ fn has_room(t: Table, rule: Rule) -> bool
 pub fn room(t: Table, rule: Rule) -> u8
     ensures { result ≡ room_answer t rule }
 {
-    if has_room(t, rule) {
+    if has_room(&t, rule) {
         answer::DONE
     } else {
         answer::NO_ROOM
@@ -201,15 +122,14 @@ pub fn apply(t: Table, rule: Rule) -> Applied
             table: t,
         };
     }
-    if !has_room(t, rule) {
+    if !has_room(&t, rule) {
         return Applied {
             answer: answer::NO_ROOM,
             table: t,
         };
     }
-    let next = change(t, rule);
     Applied {
         answer: answer::APPLIED,
-        table: next,
+        table: change(t, rule),
     }
 }

@@ -15,14 +15,14 @@ pub use rules::{
 pub use tables::{empty_table, table_ok};
 
 // What a rule does: removes its entry, or sets it to a port.
-#[derive(Clone, Copy)]
+#[derive(Clone, Copy, PartialEq, Eq)]
 pub enum Action {
     Remove,
     Set(u16),
 }
 
 // A change to a flow table: the entry of a prefix and length is removed or set.
-#[derive(Clone, Copy)]
+#[derive(Clone, Copy, PartialEq, Eq)]
 pub struct Rule {
     pub prefix: u32,
     pub length: u8,
@@ -30,7 +30,7 @@ pub struct Rule {
 }
 
 // An entry of a flow table: the port of the addresses under a prefix.
-#[derive(Clone, Copy)]
+#[derive(Clone, Copy, PartialEq, Eq)]
 pub struct Entry {
     pub prefix: u32,
     pub length: u8,
@@ -49,11 +49,4 @@ pub struct Table {
 pub struct Applied {
     pub answer: u8,
     pub table: Table,
-}
-
-// What a lookup finds.
-#[derive(Clone, Copy)]
-pub enum Found {
-    Port(u16),
-    Nothing,
 }

@@ -1,9 +1,25 @@
 // Prefixes with lengths, and rules.
 ghost use Rattle.std.specs.Prelude.{◌≡◌};
-ghost use Rattle.flow.specs.Rules.{block_size, prefix_ok, port_ok, well_formed, before, same_key, same_action, same_rule};
-ghost use Rattle.flow.specs.Rules.{port_of, action_of, rule_of, rule_empty};
+ghost use Rattle.flow.specs.Rules.{block_size, prefix_ok, port_ok, well_formed, same_rule, rule_key};
+ghost use Rattle.flow.specs.Rules.{port_of, action_of, rule_of, rule_empty, empty_rule};
 
 use crate::{Action, Rule};
+
+impl Rule {
+    // The rule in unused places.
+    pub const EMPTY: Rule = Rule {
+        prefix: 0,
+        length: 0,
+        action: Action::Remove,
+    };
+
+    // The prefix and length of the rule's entry.
+    pub(crate) fn key(&self) -> (u32, u8)
+        ensures { result ≡ rule_key self.now }
+    {
+        (self.prefix, self.length)
+    }
+}
 
 // The number of addresses under a prefix of this length.
 pub fn size_of(length: u8) -> u64
@@ -20,12 +36,7 @@ pub fn size_of(length: u8) -> u64
 pub fn prefix_ok(prefix: u32, length: u8) -> bool
     ensures { result ≡ prefix_ok (prefix, length) }
 {
-    if 32 < length {
-        return false;
-    }
-    let size = size_of(length);
-    let p = prefix as u64;
-    p % size == 0
+    length <= 32 && u64::from(prefix) % size_of(length) == 0
 }
 
 // Whether an action is a removal, or sets a port above 0.
@@ -42,62 +53,19 @@ pub fn port_ok(action: Action) -> bool
 pub fn well_formed(rule: Rule) -> bool
     ensures { result ≡ well_formed rule }
 {
-    let action = rule.action;
-    if prefix_ok(rule.prefix, rule.length) {
-        port_ok(action)
-    } else {
-        false
-    }
-}
-
-// Whether (p, l) comes before (q, m): by rising prefix, then length.
-pub(crate) fn is_before(p: u32, l: u8, q: u32, m: u8) -> bool
-    ensures { result ≡ before (p, l) (q, m) }
-{
-    if p < q {
-        true
-    } else if p == q {
-        l < m
-    } else {
-        false
-    }
-}
-
-pub(crate) fn is_same(p: u32, l: u8, q: u32, m: u8) -> bool
-    ensures { result ≡ same_key (p, l) (q, m) }
-{
-    if p == q { l == m } else { false }
-}
-
-fn same_action(a: Action, b: Action) -> bool
-    ensures { result ≡ same_action a b }
-{
-    match a {
-        Action::Remove => match b {
-            Action::Remove => true,
-            Action::Set(_) => false,
-        },
-        Action::Set(p) => match b {
-            Action::Remove => false,
-            Action::Set(q) => p == q,
-        },
-    }
+    prefix_ok(rule.prefix, rule.length) && port_ok(rule.action)
 }
 
 // Whether two rules have the same prefix, length and action.
+// Stays: docs/CLAIMS.md names it, and its contract says what == of rules means.
 pub fn same_rule(a: Rule, b: Rule) -> bool
     ensures { result ≡ same_rule a b }
 {
-    let x = a.action;
-    let y = b.action;
-    if is_same(a.prefix, a.length, b.prefix, b.length) {
-        same_action(x, y)
-    } else {
-        false
-    }
+    a == b
 }
 
 // The port of an action in bytes.
+// Stays: docs/CLAIMS.md names it, and so do the crates above; From for u16 would be a second name of the same.
 pub fn port_of(action: Action) -> u16
     ensures { result ≡ port_of action }
 {
@@ -107,13 +75,16 @@ pub fn port_of(action: Action) -> u16
     }
 }
 
-fn action_of(port: u16) -> Action
-    ensures { result ≡ action_of port }
-{
-    if port == 0 {
-        Action::Remove
-    } else {
-        Action::Set(port)
+// The action of a port in bytes: port 0 removes.
+impl From<u16> for Action {
+    ghost from_gives = { λ port r. r ≡ action_of port };
+
+    fn from(port: u16) -> Action {
+        if port == 0 {
+            Action::Remove
+        } else {
+            Action::Set(port)
+        }
     }
 }
 
@@ -121,11 +92,10 @@ fn action_of(port: u16) -> Action
 pub fn rule_of(prefix: u32, length: u8, port: u16) -> Rule
     ensures { result ≡ rule_of prefix length port }
 {
-    let action = action_of(port);
     Rule {
-        prefix: prefix,
-        length: length,
-        action: action,
+        prefix,
+        length,
+        action: Action::from(port),
     }
 }
 
@@ -133,12 +103,5 @@ pub fn rule_of(prefix: u32, length: u8, port: u16) -> Rule
 pub fn rule_empty(rule: Rule) -> bool
     ensures { result ≡ rule_empty rule }
 {
-    same_rule(
-        rule,
-        Rule {
-            prefix: 0,
-            length: 0,
-            action: Action::Remove,
-        },
-    )
+    rule == Rule::EMPTY
 }

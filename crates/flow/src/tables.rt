@@ -1,87 +1,79 @@
 // The empty flow table, the entries in use, and the limits.
-ghost use Rattle.std.specs.Prelude.{◌≡◌, ◌≤◌, take, []};
-ghost use Rattle.answer.specs.Limits.{most_entries};
-ghost use Rattle.flow.specs.Tables.{entries_of, table_of, entry_ok, is_empty, table_ok};
+ghost use Rattle.std.specs.Prelude.{◌≡◌, []};
+ghost use Rattle.lists.specs.Arrays.{every_tail, every};
+ghost use Rattle.flow.specs.Rules.{entry_key, before};
+ghost use Rattle.flow.specs.Tables.{entries_of, table_of, entry_ok, head_ok, is_empty, table_ok};
 
-use crate::rules::{is_before, prefix_ok};
+use crate::rules::prefix_ok;
 use crate::{Entry, Table};
 use answer::limits;
+
+impl Entry {
+    // The entry in unused places.
+    pub(crate) const EMPTY: Entry = Entry {
+        prefix: 0,
+        length: 0,
+        port: 0,
+    };
+
+    // Its prefix and length, by which entries are told apart and in whose order they stand.
+    pub(crate) fn key(&self) -> (u32, u8)
+        ensures { result ≡ entry_key self.now }
+    {
+        (self.prefix, self.length)
+    }
+
+    // Whether it comes before another: by rising prefix, then length.
+    fn is_before(&self, other: &Entry) -> bool
+        ensures { result ≡ before (entry_key self.now) (entry_key other.now) }
+    {
+        self.key() < other.key()
+    }
+
+    // Whether it may stand in a table.
+    fn is_ok(&self) -> bool
+        ensures { result ≡ entry_ok self.now }
+    {
+        prefix_ok(self.prefix, self.length) && 0 < self.port
+    }
+}
+
+impl Table {
+    // The entries in use: as many as the count says, or all of them.
+    pub(crate) fn used(&self) -> &[Entry]
+        ensures { result.now ≡ entries_of self.now }
+    {
+        &self.entries[..self.count.min(limits::ENTRIES)]
+    }
+}
 
 // The table with no entries.
 pub fn empty_table() -> Table
     ensures { result ≡ table_of [] }
 {
     Table {
-        entries: [Entry {
-            prefix: 0,
-            length: 0,
-            port: 0,
-        }; limits::ENTRIES],
+        entries: [Entry::EMPTY; limits::ENTRIES],
         count: 0,
     }
 }
 
-// How many entries are in use: the count, or all of them.
-pub(crate) fn used(t: Table) -> usize
-    ensures { (result ≤ most_entries) × (take result t.entries ≡ entries_of t) }
+// Whether entries may each stand in a table, and rise by prefix and length.
+fn are_ordered(entries: &[Entry]) -> bool
+    ensures { result ≡ every_tail head_ok entries.now }
 {
-    if t.count <= limits::ENTRIES {
-        t.count
-    } else {
-        limits::ENTRIES
-    }
+    entries.iter().all(|e| e.is_ok()) && entries.is_sorted_by(|a, b| a.is_before(b))
 }
 
-// Whether an entry may stand in a table.
-fn entry_ok(e: Entry) -> bool
-    ensures { result ≡ entry_ok e }
+// Whether entries are those of unused places.
+fn are_unused(entries: &[Entry]) -> bool
+    ensures { result ≡ every is_empty entries.now }
 {
-    if prefix_ok(e.prefix, e.length) {
-        0 < e.port
-    } else {
-        false
-    }
+    entries.iter().copied().all(|e| e == Entry::EMPTY)
 }
 
-fn is_empty(e: Entry) -> bool
-    ensures { result ≡ is_empty e }
-{
-    if e.prefix == 0 {
-        if e.length == 0 { e.port == 0 } else { false }
-    } else {
-        false
-    }
-}
-
-// Whether a table obeys its limits: its part of question 20. Entries in use are tested each and with the next one, the
-// other places for zero. All in one function: an array that is passed on is copied.
+// Whether a table obeys its limits: its part of question 20.
 pub fn table_ok(t: Table) -> bool
     ensures { result ≡ table_ok t }
 {
-    let count = t.count;
-    if limits::ENTRIES < count {
-        return false;
-    }
-    let mut i: usize = 0;
-    while i < count {
-        let e = t.entries[i];
-        if !entry_ok(e) {
-            return false;
-        }
-        i += 1;
-        if i < count {
-            let next = t.entries[i];
-            if !is_before(e.prefix, e.length, next.prefix, next.length) {
-                return false;
-            }
-        }
-    }
-    while i < limits::ENTRIES {
-        let e = t.entries[i];
-        if !is_empty(e) {
-            return false;
-        }
-        i += 1;
-    }
-    true
+    t.count <= limits::ENTRIES && are_ordered(t.used()) && are_unused(&t.entries[t.count..])
 }

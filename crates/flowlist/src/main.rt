@@ -5,12 +5,13 @@
 ghost use Rattle.std.specs.Prelude.{◌≡◌, ◌+◌, ◌≤◌, length};
 ghost use Rattle.rehearsal.specs.Limits.{longest_input, most_lines};
 
-use flow::Action;
+use flow::{Action, Rule};
+use prose::{Out, Prefix};
+use std::fmt;
+use std::fmt::Write;
+use switch::Slot;
 
 const STDIN_FILENO: i32 = 0;
-
-use prose::{OUT, say, say_number};
-use switch::Slot;
 
 // The switch's byte, and the longest rehearsal with one byte further.
 const SPACE: usize = 1 + rehearsal::INPUT;
@@ -21,42 +22,34 @@ fn for_input() -> [u8; SPACE]
     [0u8; SPACE]
 }
 
-fn say_command(out: &mut [u8; OUT], action: Action) {
-    match action {
-        Action::Remove => say(out, b": delete "),
-        Action::Set(_) => say(out, b": add "),
-    }
-}
+// What a rule has the switch do.
+#[derive(Clone, Copy)]
+struct Command(Rule);
 
-fn say_port(out: &mut [u8; OUT], action: Action) {
-    match action {
-        Action::Remove => {}
-        Action::Set(port) => {
-            say(out, b" to port ");
-            say_number(out, port as u64);
+impl fmt::Display for Command {
+    fn fmt<W: fmt::Write>(&self, f: &mut fmt::Formatter<W>) -> fmt::Result {
+        let rule = self.0;
+        let prefix = Prefix {
+            address: rule.prefix,
+            length: rule.length,
+        };
+        match rule.action {
+            Action::Remove => write!(f, "delete {prefix}"),
+            Action::Set(port) => write!(f, "add {prefix} to port {port}"),
         }
     }
 }
 
-fn say_rule(out: &mut [u8; OUT], slot: Slot) {
+fn say_rule(out: &mut Out, slot: Slot) -> fmt::Result {
     let rule = slot.rule;
-    let action = rule.action;
-    say(out, b"change ");
-    say_number(out, slot.number as u64);
-    say_command(out, action);
-    prose::say_prefix(out, rule.prefix, rule.length);
-    say_port(out, action);
-    say(out, b" (priority ");
-    say_number(out, rule.length as u64);
-    say(out, b", ");
-    say_number(out, openflow::length_of(rule) as u64);
-    say(out, b" bytes)\n");
-}
-
-fn say_fault(out: &mut [u8; OUT], answer: u8) {
-    say(out, b"fault ");
-    say_number(out, answer as u64);
-    say(out, b"\n");
+    writeln!(
+        out,
+        "change {}: {} (priority {}, {} bytes)",
+        slot.number,
+        Command(rule),
+        rule.length,
+        openflow::length_of(rule)
+    )
 }
 
 // A count of rules, within their places.
@@ -71,26 +64,23 @@ fn used(count: usize) -> usize
 }
 
 // What was applied is large, and stays where it is.
-fn say_applied(out: &mut [u8; OUT], switch: u8, input: &[u8]) {
+fn say_applied(out: &mut Out, switch: u8, input: &[u8]) -> fmt::Result {
     let applied = feed::applied_at(switch, input);
     if applied.answer != answer::DONE {
-        say_fault(out, applied.answer);
-        return;
+        return writeln!(out, "fault {}", applied.answer);
     }
-    let count = used(applied.count);
-    let mut i: usize = 0;
-    while i < count {
-        let slot = applied.rules[i];
-        say_rule(out, slot);
-        i += 1;
+    for slot in &applied.rules[..used(applied.count)] {
+        say_rule(out, *slot)?;
     }
+    Ok(())
 }
 
-fn main() {
-    let mut out = [0u8; OUT];
+fn main() -> fmt::Result {
+    let mut out = Out::new();
     let mut space = for_input();
     let n = io::read_full(STDIN_FILENO, &mut space);
     let input = &space[..n];
-    say_applied(&mut out, lists::byte_at(input, 0), lists::behind(input, 1));
-    prose::say_end(&mut out);
+    let said = say_applied(&mut out, lists::byte_at(input, 0), lists::behind(input, 1));
+    out.end();
+    said
 }

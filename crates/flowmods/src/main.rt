@@ -19,13 +19,13 @@ const SPACE: usize = 1 + rehearsal::INPUT;
 fn for_input() -> [u8; SPACE]
     ensures { longest_input + 2 ≡ length result }
 {
-    [0u8; SPACE]
+    [0; SPACE]
 }
 
 fn for_output() -> [u8; feed::OUTPUT]
     ensures { most_fed ≡ length result }
 {
-    [0u8; feed::OUTPUT]
+    [0; feed::OUTPUT]
 }
 
 fn say_fault(answer: u8) {
@@ -54,6 +54,5 @@ fn main() {
     }
     let mut out = for_output();
     let fed = feed::flow_mods(applied, &mut out);
-    let length = fed.length;
-    write(&out[..length]);
+    write(&out[..fed.length]);
 }

@@ -15,7 +15,8 @@ ghost use Rattle.std.specs.Prelude.{◌≡◌, ◌≤◌, length};
 
 const STDIN_FILENO: i32 = 0;
 
-use prose::OUT;
+use prose::Out;
+use std::fmt;
 
 // The header, the longest network, decisions and playbook, and one byte further.
 const HEADER: usize = 13;
@@ -59,8 +60,8 @@ fn asked_in(input: &[u8]) -> Asked
     }
 }
 
-fn main() {
-    let mut out = [0u8; OUT];
+fn main() -> fmt::Result {
+    let mut out = Out::new();
     let mut space = for_input();
     let n = io::read_full(STDIN_FILENO, &mut space);
     let input = &space[..n];
@@ -70,6 +71,7 @@ fn main() {
     let more = lists::behind(rest, asked.network);
     let decisions = lists::front(more, asked.decisions);
     let book = lists::behind(more, asked.decisions);
-    report::say_all(&mut out, asked, net, decisions, book);
-    prose::say_end(&mut out);
+    let said = report::say_all(&mut out, &asked, net, decisions, book);
+    out.end();
+    said
 }

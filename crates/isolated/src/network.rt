@@ -1,7 +1,8 @@
-// The network's bytes, as `links` writes them, laid out as the check takes them.
-ghost use Rattle.std.specs.Prelude.{◌≡◌, ◌≤◌, ◌<◌, length};
+// The network's bytes, as `links` writes them, read as the check takes them.
+ghost use Rattle.std.specs.Prelude.{◌≤◌};
 
-use checker::{LINED, LINKED};
+use checker::limits::{LINES, LINKS};
+use checker::{Line, PortLink};
 use lists::byte_at;
 
 const LINK: u8 = 0x31;
@@ -12,98 +13,98 @@ const LINK_SIZE: usize = 6;
 
 const CLIENT_SIZE: usize = 8;
 
+// Links and lines of traffic: the first `linked` and `lines` are in use.
 #[derive(Clone, Copy)]
 pub(crate) struct Network {
-    pub(crate) links: [u32; LINKED],
-    pub(crate) linked: usize,
-    pub(crate) traffic: [u32; LINED],
-    pub(crate) lines: usize,
+    links: [PortLink; LINKS],
+    linked: usize,
+    traffic: [Line; LINES],
+    lines: usize,
+    ghost fits: { (linked ≤ 256) × (lines ≤ 64) },
 }
 
-fn u32_at(b: &[u8], i: usize) -> u32
-    requires { i < 8 }
-{
-    lists::u32_of(
-        byte_at(b, i),
-        byte_at(b, i + 1),
-        byte_at(b, i + 2),
-        byte_at(b, i + 3),
-    )
-}
-
-// One link more, where there is room.
-fn with_link(n: Network, b: &[u8]) -> Network {
-    let mut out = n;
-    let i = n.linked;
-    if i < checker::limits::LINKS {
-        let at = i * checker::limits::LINK;
-        out.links[at] = byte_at(b, 1) as u32;
-        out.links[at + 1] = lists::u16_of(byte_at(b, 2), byte_at(b, 3)) as u32;
-        out.links[at + 2] = byte_at(b, 4) as u32;
-        out.links[at + 3] = byte_at(b, 5) as u32;
-        out.linked = i + 1;
+impl Network {
+    fn empty() -> Network {
+        let link = PortLink {
+            switch: 0,
+            port: 0,
+            far: 0,
+            owner: 0,
+        };
+        let line = Line {
+            client: 0,
+            prefix: 0,
+            length: 0,
+            entry: 0,
+        };
+        Network {
+            links: [link; LINKS],
+            linked: 0,
+            traffic: [line; LINES],
+            lines: 0,
+        }
     }
-    out
-}
 
-// One line of traffic more, where there is room.
-fn with_line(n: Network, b: &[u8]) -> Network {
-    let mut out = n;
-    let i = n.lines;
-    if i < checker::limits::LINES {
-        let at = i * checker::limits::LINE;
-        out.traffic[at] = byte_at(b, 1) as u32;
-        out.traffic[at + 1] = u32_at(b, 2);
-        out.traffic[at + 2] = byte_at(b, 6) as u32;
-        out.traffic[at + 3] = byte_at(b, 7) as u32;
-        out.lines = i + 1;
+    pub(crate) fn links(&self) -> &[PortLink] {
+        &self.links[..self.linked]
     }
-    out
-}
 
-// How many bytes a record has by its first one, or 0 where it is neither a link nor a line of traffic.
-fn size_of(kind: u8) -> usize
-    ensures { result ≤ 8 }
-{
-    if kind == LINK {
-        LINK_SIZE
-    } else if kind == CLIENT {
-        CLIENT_SIZE
-    } else {
-        0
+    pub(crate) fn traffic(&self) -> &[Line] {
+        &self.traffic[..self.lines]
+    }
+
+    // One link more, where there is room.
+    fn push_link(&mut self, link: PortLink) {
+        if self.linked < LINKS {
+            self.links[self.linked] = link;
+            self.linked += 1;
+        }
+    }
+
+    // One line of traffic more, where there is room.
+    fn push_line(&mut self, line: Line) {
+        if self.lines < LINES {
+            self.traffic[self.lines] = line;
+            self.lines += 1;
+        }
     }
 }
 
-// One link or one line of traffic more.
-fn with_record(n: Network, b: &[u8]) -> Network {
-    if byte_at(b, 0) == LINK {
-        with_link(n, b)
-    } else {
-        with_line(n, b)
+fn link_in(b: &[u8]) -> PortLink {
+    PortLink {
+        switch: byte_at(b, 1) as u32,
+        port: lists::u16_of(byte_at(b, 2), byte_at(b, 3)) as u32,
+        far: byte_at(b, 4) as u32,
+        owner: byte_at(b, 5) as u32,
+    }
+}
+
+fn line_in(b: &[u8]) -> Line {
+    Line {
+        client: byte_at(b, 1) as u32,
+        prefix: lists::u32_of(byte_at(b, 2), byte_at(b, 3), byte_at(b, 4), byte_at(b, 5)),
+        length: byte_at(b, 6) as u32,
+        entry: byte_at(b, 7) as u32,
     }
 }
 
 // The network of all records before the first that is neither a link nor a line of traffic.
-pub(crate) fn read(b: &[u8]) -> Network {
-    let mut n = Network {
-        links: [0; LINKED],
-        linked: 0,
-        traffic: [0; LINED],
-        lines: 0,
-    };
-    let mut at: usize = 0;
-    while at < b.len() {
-        let rest = lists::behind(b, at);
-        let size = size_of(byte_at(rest, 0));
-        if size == 0 {
-            return n;
-        }
-        let next = with_record(n, rest);
-        n = next;
-        if b.len() - at <= size {
-            return n;
-        }
-        at += size;
+pub(crate) fn read(bytes: &[u8]) -> Network {
+    let mut network = Network::empty();
+    let mut rest = bytes;
+    while !rest.is_empty() {
+        let size = match byte_at(rest, 0) {
+            LINK => {
+                network.push_link(link_in(rest));
+                LINK_SIZE
+            }
+            CLIENT => {
+                network.push_line(line_in(rest));
+                CLIENT_SIZE
+            }
+            _ => return network,
+        };
+        rest = lists::behind(rest, size);
     }
-    n
+    network
 }

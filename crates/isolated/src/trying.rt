@@ -5,23 +5,46 @@ use checker::limits::DECISION;
 use playbook::Playbook;
 use playbook::limits::PLANS;
 
-// The bytes of three decisions, and of two.
+// The bytes of three decisions.
 const THREE: usize = 3 * DECISION;
-
-const TWO: usize = 2 * DECISION;
 
 // A list of decisions, six bytes each: the first `length` bytes are in use.
 #[derive(Clone, Copy)]
 pub(crate) struct Tried {
-    pub(crate) bytes: [u8; THREE],
-    pub(crate) length: usize,
+    bytes: [u8; THREE],
+    length: usize,
+    ghost fits: { length ≤ 18 },
+}
+
+impl Tried {
+    fn empty() -> Tried {
+        Tried {
+            bytes: [0; THREE],
+            length: 0,
+        }
+    }
+
+    pub(crate) fn bytes(&self) -> &[u8] {
+        &self.bytes[..self.length]
+    }
+
+    // One decision more, where there is room: that of a plan, with the next serial.
+    fn push(&mut self, p: &Playbook, plan: usize) {
+        let at = self.length;
+        if at + DECISION <= THREE && plan < PLANS {
+            self.bytes[at] = p.plans[plan].switch;
+            self.bytes[at + 4] = (at / DECISION + 1) as u8;
+            self.bytes[at + 5] = p.plans[plan].cause;
+            self.length = at + DECISION;
+        }
+    }
 }
 
 // How many plans a playbook has.
-pub(crate) fn plans_of(p: Playbook) -> usize
+pub(crate) fn plans_of(p: &Playbook) -> usize
     ensures { result ≤ 64 }
 {
-    if p.planned < PLANS { p.planned } else { PLANS }
+    p.planned.min(PLANS)
 }
 
 // So many lists, each with any of so many plans behind it.
@@ -37,56 +60,37 @@ pub(crate) fn how_many(plans: usize, any: usize) -> usize
     requires { plans ≤ 64 }
     ensures { result ≤ 266304 }
 {
-    if any == 0 {
-        0
-    } else if any == 1 {
-        plans
-    } else if any == 2 {
-        plans + times(plans, plans)
-    } else {
-        let square = times(plans, plans);
-        plans + square + times(square, plans)
+    let square = times(plans, plans);
+    match any {
+        0 => 0,
+        1 => plans,
+        2 => plans + square,
+        _ => plans + square + times(square, plans),
     }
-}
-
-// One decision more: that of a plan, with the next serial.
-fn with_plan(t: Tried, p: Playbook, plan: usize) -> Tried {
-    let mut out = t;
-    let at = t.length;
-    if at <= TWO {
-        if plan < PLANS {
-            let q = p.plans[plan];
-            out.bytes[at] = q.switch;
-            out.bytes[at + 4] = (at / DECISION + 1) as u8;
-            out.bytes[at + 5] = q.cause;
-            out.length = at + DECISION;
-        }
-    }
-    out
 }
 
 // The list at a place: first those of one decision, then those of two, then those of three.
-pub(crate) fn list_at(p: Playbook, plans: usize, place: usize) -> Tried
+pub(crate) fn list_at(p: &Playbook, plans: usize, place: usize) -> Tried
     requires { plans ≤ 64 }
 {
-    let none = Tried {
-        bytes: [0; THREE],
-        length: 0,
-    };
+    let mut list = Tried::empty();
     if plans == 0 {
-        return none;
+        return list;
     }
     if place < plans {
-        return with_plan(none, p, place);
+        list.push(p, place);
+        return list;
     }
     let second = place - plans;
     let square = times(plans, plans);
     if second < square {
-        let one = with_plan(none, p, second / plans);
-        return with_plan(one, p, second % plans);
+        list.push(p, second / plans);
+        list.push(p, second % plans);
+        return list;
     }
     let third = second - square;
-    let one = with_plan(none, p, third / plans / plans);
-    let two = with_plan(one, p, third / plans % plans);
-    with_plan(two, p, third % plans)
+    list.push(p, third / plans / plans);
+    list.push(p, third / plans % plans);
+    list.push(p, third % plans);
+    list
 }

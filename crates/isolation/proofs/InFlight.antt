@@ -16,8 +16,7 @@ use Rattle.lists.proofs.Members.{among_at}
 use Rattle.lists.proofs.Tails.{every_all}
 use Rattle.flow.specs.Lookups.{lookup_of}
 use Rattle.flow.specs.Tables.{entries_of}
-use Rattle.flow.specs.declared.Found.{Found}
-use Rattle.flow.specs.declared.Found.TheVariants.{Port, Nothing}
+use Rattle.std.specs.Prelude.{Option, Some, None}
 use Rattle.flow.specs.declared.Table.{Table}
 use Rattle.controller.specs.Changes.{empty_undone}
 use Rattle.controller.specs.declared.Undone.{Undone}
@@ -56,13 +55,13 @@ spend-fine zero c next e = undecided-fine c e
 spend-fine (suc b) c next e = (b, e)
 
 -- what was said of a port that is found
-port_found : (x : Found) (p : ℕ) (good : Verdict) (go : ℕ → Verdict) {v : Verdict} → x ≡ Port p
+port_found : (x : Option ℕ) (p : ℕ) (good : Verdict) (go : ℕ → Verdict) {v : Verdict} → x ≡ Some p
     → found_verdict x good go ≡ v → go p ≡ v
-port_found x p good go e h = sym (ap (λ (y : Found). found_verdict y good go) e) ∙ h
+port_found x p good go e h = sym (ap (λ (y : Option ℕ). found_verdict y good go) e) ∙ h
 
 module _ (us : List Undone) (numbered : (i : ℕ) → i < length us → (get_or us i empty_undone).number ≡ i + 1)
     (covered : ℕ → Bool) (c : ℕ) (links : List Link) (blame : List ℕ → Failure)
-    (find : ℕ → ℕ → Found) (made_by_lem : ℕ → List ℕ)
+    (find : ℕ → ℕ → Option ℕ) (made_by_lem : ℕ → List ℕ)
     (may : (i : ℕ) → (fed us (made_by_lem i)).refused ≡ [])
     (grows : (i j : ℕ) → is_among j (made_by_lem i) ≡ true → is_among j (made_by_lem (suc i)) ≡ true)
     (finds : (i s : ℕ) → s < 16 → find i s ≡ finds_after us covered (made_by_lem i) s) where
@@ -113,7 +112,7 @@ module _ (us : List Undone) (numbered : (i : ℕ) → i < length us → (get_or 
     all : Known j (known_at us known last_one)
 
   asked : (hops j s p : ℕ) (known : List ℕ) (b y : ℕ) → s < 16 → checks (suc hops) s known b ≡ fine y → Known j known
-      → find j s ≡ Port p → Asked hops j s p known
+      → find j s ≡ Some p → Asked hops j s p known
   unfolding flight
   asked hops j s p known b y l e all f =
       let r = last us numbered covered s (made_by_lem j) (may j) in
@@ -121,7 +120,7 @@ module _ (us : List Undone) (numbered : (i : ℕ) → i < length us → (get_or 
       let one = turn_fine _ (down_from (length us)) b y e m (down_there (length us) m r.1.bound) in
       let paid = spend-fine one.0 one.1 _
       (chosen (can_be_last us covered s known m) _ _ (can-be-last j s m known all r.1) one.2) in
-      let is : finds_after us covered (up_to m) s ≡ Port p =
+      let is : finds_after us covered (up_to m) s ≡ Some p =
       sym (finds j s l ∙ longest_same 32 _ (ports_after us covered (up_to m) s) r.1.ports) ∙ f in
       record {
         last_one = m;
@@ -138,7 +137,7 @@ module _ (us : List Undone) (numbered : (i : ℕ) → i < length us → (get_or 
   flown (suc hops) i s known b y e all w =
       go w.1 (λ j t later d z q k v. flown hops j t later d z q k v)
     where
-      at : (j p : ℕ) → i ≤ j → find j s ≡ Port p → Asked hops j s p known
+      at : (j p : ℕ) → i ≤ j → find j s ≡ Some p → Asked hops j s p known
       at j p l f = asked hops j s p known b y (ltb-true s 16 w.0) e (λ k h. stays i j k l (all k h)) f
 
       go : Leg c links find (Within c links find in_domain hops) i s
@@ -188,7 +187,7 @@ module _ (S : Setting) (v : Valid S) (N : Network) (ok : network_ok N ≡ true) 
       let at : ℕ → Run = λ i. run (step S) (start S) (moment i) in
       let safe : (i : ℕ) → Safe S (at i) = λ i. (demand3 S v).safe (moment i) (M.within i) in
       let entry = ltb-true t.entry 16 own.0 in
-      let find : ℕ → ℕ → Found = λ i s. lookup_of address (entries_of ((at i).switches s).table) in
+      let find : ℕ → ℕ → Option ℕ = λ i s. lookup_of address (entries_of ((at i).switches s).table) in
       flown us (agreed-numbered S v) covered t.client N.links
       (λ made. record { traffic = t; address = one.tried; made = made }) find (λ i. answered S (at i))
       (λ i. (safe i).in_order)
@@ -206,7 +205,7 @@ module _ (S : Setting) (v : Valid S) (N : Network) (ok : network_ok N ≡ true) 
       (loopless t.client N.links find (links_ok S v N ok) hops 0 t.entry entry (ap keeps_own e))
 
 -- asked at one moment, the switches give the way over the tables of that moment
-fly_still : (c : ℕ) (links : List Link) (find : ℕ → Found) (i hops s : ℕ)
+fly_still : (c : ℕ) (links : List Link) (find : ℕ → Option ℕ) (i hops s : ℕ)
     → fly c links (λ j. find) i hops s ≡ follow c links find hops s
 unfolding fly follow
 fly_still c links find i zero s = refl
@@ -219,13 +218,13 @@ fly_still c links find i (suc hops) s = found (find s) (λ t. fly_still c links 
     met p leaves rest = refl
     met p (goes_to t) rest = rest t
 
-    found : (x : Found) → ((t : ℕ) → fly c links (λ j. find) (suc i) hops t ≡ follow c links find hops t)
+    found : (x : Option ℕ) → ((t : ℕ) → fly c links (λ j. find) (suc i) hops t ≡ follow c links find hops t)
         → by_found x (lost s)
         (λ (p : ℕ). by_step (over c links s p) (crossed s p) (λ (t : ℕ). fly c links (λ j. find) (suc i) hops t))
         ≡ by_found x (lost s)
         (λ (p : ℕ). by_step (over c links s p) (crossed s p) (λ (t : ℕ). follow c links find hops t))
-    found Nothing rest = refl
-    found (Port p) rest = met p (over c links s p) rest
+    found None rest = refl
+    found (Some p) rest = met p (over c links s p) rest
 
 -- so the check of flights does for packets at rest too
 pub flights_isolate : (S : Setting) (v : Valid S) (N : Network) → network_ok N ≡ true → (settled budget left : ℕ)

@@ -12,7 +12,7 @@ use borrow.Author.Tests.{lt-ltb, eq-eqb, eqb-true}
 use Rattle.answer.specs.Ask.{pick}
 use Rattle.answer.proofs.Bools.{by_bool, by_eq, by_or, by_le, tf, is_false, and_join, and_parts, or_left, or_right}
 use Rattle.lists.specs.Kinds.{among, is_among}
-use Rattle.flow.specs.declared.Found.{Found}
+use Rattle.std.specs.Prelude.{Option}
 use Rattle.controller.specs.Changes.{empty_undone}
 use Rattle.controller.specs.Readiness.{waits_for, same_switch}
 use Rattle.controller.specs.declared.Undone.{Undone}
@@ -133,7 +133,7 @@ module _ (us : List Undone) (numbers : (i : ℕ) → i < length us → (get_or u
           k,
           record {
             ports = λ l.
-                ap (λ (f : Found). pick (hits us covered k s l) (port_by (change_of us k).rule.action) f)
+                ap (λ (f : Option ℕ). pick (hits us covered k s l) (port_by (change_of us k).rule.action) f)
                 (t.ports l ∙ sym (flat m (k - 1 - m) l between)
                 ∙ ap (λ (n : ℕ). ports_after us covered (up_to n) s l) up)
                 ∙ sym (carried_out_lem k l a.low);

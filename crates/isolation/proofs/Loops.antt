@@ -11,8 +11,7 @@ use lib.Dec.{eqb, ltb}
 use borrow.Author.Tests.{ltb-true, lt-ltb, eq-eqb, ne_eqb}
 use Rattle.answer.proofs.Bools.{by_eq, tf, and_parts}
 use Rattle.lists.specs.Arrays.{every}
-use Rattle.flow.specs.declared.Found.{Found}
-use Rattle.flow.specs.declared.Found.TheVariants.{Port, Nothing}
+use Rattle.std.specs.Prelude.{Option, Some, None}
 use Rattle.protocol.specs.Families.{count_below}
 use Rattle.protocol.proofs.Families.{count-zero, count_less, count-every}
 use Rattle.isolation.specs.Networks.{Link, link_ok}
@@ -34,11 +33,11 @@ without_itself u ok = rw (eq-eqb u u refl)
 without_other : (u : ℕ) (ok : ℕ → Bool) (s : ℕ) → (u ≡ s → ⊥) → ok s ≡ true → without u ok s ≡ true
 without_other u ok s other h = rw (ne_eqb u s other, h)
 
-module _ (c : ℕ) (links : List Link) (find : ℕ → ℕ → Found) where
+module _ (c : ℕ) (links : List Link) (find : ℕ → ℕ → Option ℕ) where
   -- a switch is asked at a moment from i on: its port is foreign, or leads to a switch from where it goes on later
   pub data Leg (P : ℕ → ℕ → Type 0) (i s : ℕ) : Type 0 where
-    out : (j p : ℕ) → i ≤ j → find j s ≡ Port p → over c links s p ≡ foreign → Leg P i s
-    on : (j p t : ℕ) → i ≤ j → find j s ≡ Port p → over c links s p ≡ goes_to t → P (suc j) t → Leg P i s
+    out : (j p : ℕ) → i ≤ j → find j s ≡ Some p → over c links s p ≡ foreign → Leg P i s
+    on : (j p t : ℕ) → i ≤ j → find j s ≡ Some p → over c links s p ≡ goes_to t → P (suc j) t → Leg P i s
 
   -- what goes on so goes on in a weaker way too, and what is asked from a moment on is asked from an earlier one on
   leg_map : (P Q : ℕ → ℕ → Type 0) → ((j t : ℕ) → P j t → Q j t) → (i s : ℕ) → Leg P i s → Leg Q i s
@@ -111,19 +110,19 @@ module _ (c : ℕ) (links : List Link) (find : ℕ → ℕ → Found) where
         Onward : Type 0
         Onward = (t : ℕ) → t < 16 → keeps_own (fly c links find (suc i) hops t) ≡ false → Within in_domain hops (suc i) t
 
-        met : (p : ℕ) → find i s ≡ Port p → (x : Step) → over c links s p ≡ x
+        met : (p : ℕ) → find i s ≡ Some p → (x : Step) → over c links s p ≡ x
             → keeps_own (by_step x (crossed s p) (λ (t : ℕ). fly c links find (suc i) hops t)) ≡ false → Onward
             → Leg (Within in_domain hops) i s
         met p e foreign q r rest = out i p (omega arith) e q
         met p e leaves q r rest = tf refl r
         met p e (goes_to t) q r rest = on i p t (omega arith) e q (rest t (over-known c links ok s p t q) r)
 
-        found : (x : Found) → find i s ≡ x
+        found : (x : Option ℕ) → find i s ≡ x
             → keeps_own (by_found x (lost s)
             (λ (p : ℕ). by_step (over c links s p) (crossed s p) (λ (t : ℕ). fly c links find (suc i) hops t))) ≡ false
             → Onward → Leg (Within in_domain hops) i s
-        found Nothing e r rest = tf refl r
-        found (Port p) e r rest = met p e (over c links s p) refl r rest
+        found None e r rest = tf refl r
+        found (Some p) e r rest = met p e (over c links s p) refl r rest
 
     -- and one over 16 switches at most
     pub loopless : (hops i s : ℕ) → s < 16 → keeps_own (fly c links find i hops s) ≡ false → Within in_domain 16 i s

@@ -19,8 +19,7 @@ use Rattle.flow.specs.Changes.{apply_rule, changed}
 use Rattle.flow.specs.Lookups.{covers, lookup_of}
 use Rattle.flow.specs.declared.Action.{Action}
 use Rattle.flow.specs.declared.Action.TheVariants.{Remove, Set}
-use Rattle.flow.specs.declared.Found.{Found}
-use Rattle.flow.specs.declared.Found.TheVariants.{Port, Nothing}
+use Rattle.std.specs.Prelude.{Option, Some, None}
 use Rattle.flow.specs.declared.Rule.{Rule}
 use Rattle.flow.specs.declared.Table.{Table}
 use Rattle.flow.proofs.Order.{key_sound, key_is}
@@ -66,34 +65,34 @@ reach_short : (address : ℕ) (k : Key) → reaches address k ≡ true → k.1 �
 reach_short address k h = leb-true k.1 32 (and_parts (leb k.1 32) _ (and_parts (prefix_ok k) _ h).0).0
 
 -- what the greatest length with a port is
-data Greatest (ports : ℕ → Found) (n : ℕ) (f : Found) : Type 0 where
-  none : f ≡ Nothing → ((l : ℕ) → l ≤ n → ports l ≡ Nothing) → Greatest ports n f
-  one : (l p : ℕ) → l ≤ n → ports l ≡ Port p → f ≡ Port p → ((j : ℕ) → l < j → j ≤ n → ports j ≡ Nothing)
+data Greatest (ports : ℕ → Option ℕ) (n : ℕ) (f : Option ℕ) : Type 0 where
+  none : f ≡ None → ((l : ℕ) → l ≤ n → ports l ≡ None) → Greatest ports n f
+  one : (l p : ℕ) → l ≤ n → ports l ≡ Some p → f ≡ Some p → ((j : ℕ) → l < j → j ≤ n → ports j ≡ None)
       → Greatest ports n f
 
-greatest : (n : ℕ) (ports : ℕ → Found) → Greatest ports n (longest_to n ports)
+greatest : (n : ℕ) (ports : ℕ → Option ℕ) → Greatest ports n (longest_to n ports)
 unfolding longest_to
 greatest zero ports = first (ports 0) refl
   where
-    first : (f : Found) → ports 0 ≡ f → Greatest ports 0 (ports 0)
-    first Nothing e = none e (λ l m. let z : l ≡ 0 = omega arith in ap ports z ∙ e)
-    first (Port p) e = one 0 p (omega arith) e e (λ j low high. absurd (omega arith))
+    first : (f : Option ℕ) → ports 0 ≡ f → Greatest ports 0 (ports 0)
+    first None e = none e (λ l m. let z : l ≡ 0 = omega arith in ap ports z ∙ e)
+    first (Some p) e = one 0 p (omega arith) e e (λ j low high. absurd (omega arith))
 greatest (suc n) ports = next (ports (suc n)) refl (greatest n ports)
   where
-    next : (f : Found) → ports (suc n) ≡ f → Greatest ports n (longest_to n ports)
+    next : (f : Option ℕ) → ports (suc n) ≡ f → Greatest ports n (longest_to n ports)
         → Greatest ports (suc n) (longest_to (suc n) ports)
-    next (Port p) e g = one (suc n) p (omega arith) e (rw e) (λ j low high. absurd (omega arith))
-    next Nothing e (none f all) =
+    next (Some p) e g = one (suc n) p (omega arith) e (rw e) (λ j low high. absurd (omega arith))
+    next None e (none f all) =
         none (rw e f) (λ l m. by_le l n (λ low. all l low) (λ high. let z : l ≡ suc n = omega arith in ap ports z ∙ e))
-    next Nothing e (one l p low has f above) =
+    next None e (one l p low has f above) =
         one l p (omega arith) has (rw e f)
         (λ j more few. by_le j n (λ q. above j more q) (λ q. let z : j ≡ suc n = omega arith in ap ports z ∙ e))
 
 -- it answers for the ports of all keys
-longest_answers : (address : ℕ) (ports : ℕ → Found) → Answers address (λ k. ports k.1) (longest_to 32 ports)
+longest_answers : (address : ℕ) (ports : ℕ → Option ℕ) → Answers address (λ k. ports k.1) (longest_to 32 ports)
 longest_answers address ports = go (longest_to 32 ports) (greatest 32 ports)
   where
-    go : (f : Found) → Greatest ports 32 f → Answers address (λ k. ports k.1) f
+    go : (f : Option ℕ) → Greatest ports 32 f → Answers address (λ k. ports k.1) f
     go f (none e all) = unanswered e (λ k h. all k.1 (reach_short address k h))
     go f (one l p few has e above) =
         answered (record {
@@ -174,7 +173,7 @@ module _ (us : List Undone) (address : ℕ) (covered : ℕ → Bool)
       (longest_answers address (ports_after us covered ks s))
 
 -- ports that agree at every length have one greatest
-pub longest_same : (n : ℕ) (p q : ℕ → Found) → ((l : ℕ) → p l ≡ q l) → longest_to n p ≡ longest_to n q
+pub longest_same : (n : ℕ) (p q : ℕ → Option ℕ) → ((l : ℕ) → p l ≡ q l) → longest_to n p ≡ longest_to n q
 unfolding longest_to
 longest_same zero p q h = h 0
 longest_same (suc n) p q h = rw (h (suc n), longest_same n p q h)

@@ -17,7 +17,7 @@ use Rattle.lists.proofs.Tails.{every_at}
 use Rattle.flow.specs.Rules.{well_formed}
 use Rattle.flow.specs.Tables.{entries_of, table_ok}
 use Rattle.flow.specs.Lookups.{lookup_of}
-use Rattle.flow.specs.declared.Found.{Found}
+use Rattle.std.specs.Prelude.{Option}
 use Rattle.flow.specs.declared.Rule.{Rule}
 use Rattle.flow.specs.declared.Table.{Table}
 use Rattle.flow.proofs.Kept.{apply_table, table_ok_lem}
@@ -129,7 +129,7 @@ module _ (S : Setting) (v : Valid S) where
           let end = explored_all us covered (wanted_after us wanted settled N t covered)
           (λ made. record { traffic = t; address = one.tried; made = made }) settled (falling ks) strict may all
           one.budget one.left one.says in
-          let real : ℕ → Found = λ s. lookup_of address (entries_of (tables s)) in
+          let real : ℕ → Option ℕ = λ s. lookup_of address (entries_of (tables s)) in
           let found : (s : ℕ) → s < 16 → real s ≡ finds_after us covered end.0 s =
           λ s l. ap (λ (x : Table). lookup_of address (entries_of x)) (is s l)
           ∙ lookup_is us address covered one.alike formed fed_ok (falling ks) may s

@@ -13,8 +13,7 @@ use Rattle.answer.proofs.Bools.{by_bool, by_eq, by_or, tf, and_join, and_parts, 
 use Rattle.lists.specs.Arrays.{every}
 use Rattle.lists.specs.Kinds.{among, is_among, different}
 use Rattle.lists.proofs.Pigeonhole.{members}
-use Rattle.flow.specs.declared.Found.{Found}
-use Rattle.flow.specs.declared.Found.TheVariants.{Port, Nothing}
+use Rattle.std.specs.Prelude.{Option, Some, None}
 use Rattle.isolation.specs.Networks.{Far, outside, to_switch, Link, far_ok, link_ok}
 use Rattle.isolation.specs.Traces.{lost, crossed, Step, foreign, leaves, goes_to, may_use}
 use Rattle.isolation.specs.Traces.{behind, over, by_step, by_found, follow, keeps_own}
@@ -58,7 +57,7 @@ over-known c (l ∷ ls) ok s p t e =
 
 module _ (c : ℕ) (links : List Link) (ok : every link_ok links ≡ true) where
   -- two families of findings that agree on the domain's switches
-  pub follow-same : (f g : ℕ → Found) → ((s : ℕ) → s < 16 → f s ≡ g s) → (hops s : ℕ) → s < 16
+  pub follow-same : (f g : ℕ → Option ℕ) → ((s : ℕ) → s < 16 → f s ≡ g s) → (hops s : ℕ) → s < 16
       → follow c links f hops s ≡ follow c links g hops s
   unfolding follow
   follow-same f g same zero s l = refl
@@ -72,13 +71,13 @@ module _ (c : ℕ) (links : List Link) (ok : every link_ok links ≡ true) where
       met p leaves e rest = refl
       met p (goes_to t) e rest = rest t (over-known c links ok s p t e)
 
-      found : (x : Found) → ((t : ℕ) → t < 16 → follow c links f hops t ≡ follow c links g hops t)
+      found : (x : Option ℕ) → ((t : ℕ) → t < 16 → follow c links f hops t ≡ follow c links g hops t)
           → by_found x (lost s) (λ (p : ℕ). by_step (over c links s p) (crossed s p) (λ (t : ℕ). follow c links f hops t))
           ≡ by_found x (lost s) (λ (p : ℕ). by_step (over c links s p) (crossed s p) (λ (t : ℕ). follow c links g hops t))
-      found Nothing rest = refl
-      found (Port p) rest = met p (over c links s p) refl rest
+      found None rest = refl
+      found (Some p) rest = met p (over c links s p) refl rest
 
-  module _ (f : ℕ → Found) where
+  module _ (f : ℕ → Option ℕ) where
     -- whether a foreign port is met within so many switches
     abbrev crosses : ℕ → ℕ → Bool
     crosses hops s = not (keeps_own (follow c links f hops s))
@@ -92,14 +91,14 @@ module _ (c : ℕ) (links : List Link) (ok : every link_ok links ≡ true) where
     unfolding follow
     after s = found (f s) refl
       where
-        met : (p : ℕ) → f s ≡ Port p → (x : Step) → over c links s p ≡ x → After s
+        met : (p : ℕ) → f s ≡ Some p → (x : Step) → over c links s p ≡ x → After s
         met p e foreign q = stays true (λ n. rw (e, q))
         met p e leaves q = stays false (λ n. rw (e, q))
         met p e (goes_to t) q = moves t (over-known c links ok s p t q) (λ n. rw (e, q))
 
-        found : (x : Found) → f s ≡ x → After s
-        found Nothing e = stays false (λ n. rw e)
-        found (Port p) e = met p e (over c links s p) refl
+        found : (x : Option ℕ) → f s ≡ x → After s
+        found None e = stays false (λ n. rw e)
+        found (Some p) e = met p e (over c links s p) refl
 
     none_yet : (s : ℕ) → crosses 0 s ≡ false
     unfolding follow

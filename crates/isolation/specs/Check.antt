@@ -1,7 +1,7 @@
 -- The check of all orders of arrival, for one address at a time. Of an evening it asks only the agreed changes. The
 -- changes are tried by rising number: each that may be made next is made and, if its prefix covers the address, is also
 -- left out. So each set of covering changes that an order of arrival can make is met once. Assumes nothing.
-use Rattle.std.specs.Prelude.{ℕ, zero, suc, ◌+◌, Bool, ◌&&◌, List, [], ◌∷◌, ltb, eqb, length}
+use Rattle.std.specs.Prelude.{ℕ, zero, suc, ◌+◌, Bool, ◌&&◌, List, [], ◌∷◌, ltb, eqb, length, Option, Some, None}
 use Rattle.answer.specs.Ask.{pick}
 use Rattle.answer.specs.Limits.{switch_count}
 use Rattle.lists.specs.Counts.{passing}
@@ -10,8 +10,6 @@ use Rattle.flow.specs.Rules.{rule_key, block_size}
 use Rattle.flow.specs.Lookups.{covers}
 use Rattle.flow.specs.declared.Action.{Action}
 use Rattle.flow.specs.declared.Action.TheVariants.{Remove, Set}
-use Rattle.flow.specs.declared.Found.{Found}
-use Rattle.flow.specs.declared.Found.TheVariants.{Port, Nothing}
 use Rattle.controller.specs.declared.Undone.{Undone}
 use Rattle.domain.specs.Ideals.{change_of, skips_none}
 use Rattle.isolation.specs.Networks.{Traffic, Network}
@@ -44,16 +42,16 @@ abbrev pub tested : Bool → Failure → ℕ → Verdict
 tested good f zero = undecided
 tested good f (suc budget) = pick good (fine budget) (fails f)
 
-abbrev pub port_by : Action → Found
-port_by Remove = Nothing
-port_by (Set port) = Port port
+abbrev pub port_by : Action → Option ℕ
+port_by Remove = None
+port_by (Set port) = Some port
 
 -- the port of the greatest length up to one that has a port
-abbrev pub or_else : Found → Found → Found
-or_else Nothing f = f
-or_else (Port p) f = Port p
+abbrev pub or_else : Option ℕ → Option ℕ → Option ℕ
+or_else None f = f
+or_else (Some p) f = Some p
 
-unfoldable pub longest_to : ℕ → (ℕ → Found) → Found
+unfoldable pub longest_to : ℕ → (ℕ → Option ℕ) → Option ℕ
 longest_to zero ports = ports 0
 longest_to (suc l) ports = or_else (ports (suc l)) (longest_to l ports)
 
@@ -79,12 +77,12 @@ module _ (us : List Undone) where
 
     -- what matters to one address once some numbers are made, the latest first: at each switch, for each prefix length,
     -- the port of the entry that covers it
-    unfoldable pub ports_after : List ℕ → ℕ → ℕ → Found
-    ports_after [] s l = Nothing
+    unfoldable pub ports_after : List ℕ → ℕ → ℕ → Option ℕ
+    ports_after [] s l = None
     ports_after (k ∷ ks) s l = pick (hits k s l) (port_by (change_of us k).rule.action) (ports_after ks s l)
 
     -- the port that a switch then finds
-    abbrev pub finds_after : List ℕ → ℕ → Found
+    abbrev pub finds_after : List ℕ → ℕ → Option ℕ
     finds_after made s = longest_to 32 (ports_after made s)
 
     -- a change may stay unmade: its prefix covers the address, and it is not one of those known to be made

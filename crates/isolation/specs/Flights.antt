@@ -3,6 +3,7 @@
 -- prefix covers the address, and keeps the numbers that are known to be made by then; no set of changes is enumerated.
 -- Assumes nothing.
 use Rattle.std.specs.Prelude.{ℕ, zero, suc, ◌≡◌, Bool, true, false, not, ◌&&◌, ◌||◌, leb, eqb, length}
+use Rattle.std.specs.Prelude.{Option, Some, None}
 use mathlib.Core.List.{List, [], ◌∷◌, ◌++◌, Memᴰ}
 use Rattle.answer.specs.Ask.{pick}
 use Rattle.lists.specs.Arrays.{every}
@@ -10,8 +11,6 @@ use Rattle.lists.specs.Counts.{passing}
 use Rattle.lists.specs.Kinds.{is_among}
 use Rattle.flow.specs.Lookups.{covers, lookup_of}
 use Rattle.flow.specs.Tables.{entries_of}
-use Rattle.flow.specs.declared.Found.{Found}
-use Rattle.flow.specs.declared.Found.TheVariants.{Port, Nothing}
 use Rattle.controller.specs.Readiness.{waits_for}
 use Rattle.controller.specs.declared.Undone.{Undone}
 use Rattle.protocol.specs.Orders.{up_to}
@@ -28,7 +27,7 @@ use Rattle.isolation.specs.Check.{Failure, Verdict, fine, fails, undecided, in_t
 use Rattle.isolation.specs.Check.{each_address}
 
 -- the way of client c's packet, the switch met as number i finding what `find i` says
-unfoldable pub fly : ℕ → List Link → (ℕ → ℕ → Found) → ℕ → ℕ → ℕ → End
+unfoldable pub fly : ℕ → List Link → (ℕ → ℕ → Option ℕ) → ℕ → ℕ → ℕ → End
 fly c links find i zero s = circling
 fly c links find i (suc hops) s =
     by_found (find i s) (lost s)
@@ -59,9 +58,9 @@ step_verdict foreign bad good go = bad
 step_verdict leaves bad good go = good
 step_verdict (goes_to s) bad good go = go s
 
-abbrev pub found_verdict : Found → Verdict → (ℕ → Verdict) → Verdict
-found_verdict Nothing good go = good
-found_verdict (Port p) good go = go p
+abbrev pub found_verdict : Option ℕ → Verdict → (ℕ → Verdict) → Verdict
+found_verdict None good go = good
+found_verdict (Some p) good go = go p
 
 abbrev pub spend : ℕ → (ℕ → Verdict) → Verdict
 spend zero next = undecided

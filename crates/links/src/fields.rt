@@ -1,94 +1,76 @@
 // The fields of links and of client lines, with the words in front of them.
-use crate::parse::{Fault, Name, Parse, faulted, is_fine, is_next, named, number, passed};
-use crate::values::{NO_LENGTH, is_name, prefix_of};
-use crate::words::{start_from, word};
+use crate::parse::{Expected, Fault};
+use crate::values::{Prefix, is_name, prefix_of};
+use crate::words::Words;
 
 // What stands for the outside: one more than the last switch.
-const OUTSIDE: u32 = 16;
+const OUTSIDE: u8 = 16;
 
-pub(crate) fn switch(text: &[u8], p: Parse) -> Parse {
-    let q = named(text, p, b"switch", Fault::Switch);
-    number(text, q, 0, 15, Fault::SwitchNumber)
-}
+impl<'a> Words<'a> {
+    pub(crate) fn switch(&mut self) -> Result<u8, Fault<'a>> {
+        self.named(b"switch", Expected::Switch)?;
+        let switch = self.number(0, 15, Expected::SwitchNumber)?;
+        Ok(switch as u8)
+    }
 
-pub(crate) fn port(text: &[u8], p: Parse) -> Parse {
-    let q = named(text, p, b"port", Fault::Port);
-    number(text, q, 1, 65535, Fault::PortNumber)
-}
+    pub(crate) fn port(&mut self) -> Result<u16, Fault<'a>> {
+        self.named(b"port", Expected::Port)?;
+        self.number(1, 65535, Expected::PortNumber)
+    }
 
-// What a link leads to.
-pub(crate) fn next(text: &[u8], p: Parse) -> Parse {
-    let mut q = named(text, p, b"to", Fault::To);
-    if !is_fine(q) {
-        return q;
+    // What a link leads to.
+    pub(crate) fn far(&mut self) -> Result<u8, Fault<'a>> {
+        self.named(b"to", Expected::To)?;
+        if self.is_next(b"switch") {
+            return self.switch();
+        }
+        self.named(b"outside", Expected::Next)?;
+        Ok(OUTSIDE)
     }
-    if is_next(text, q, b"switch") {
-        return switch(text, q);
-    }
-    if is_next(text, q, b"outside") {
-        q.value = OUTSIDE;
-        return passed(text, q);
-    }
-    faulted(q, Fault::Next)
-}
 
-// The next word as a client's name.
-fn name(text: &[u8], p: Parse, fault: Fault) -> Parse {
-    let at = p.at;
-    if !is_name(word(text, at)) {
-        return faulted(p, fault);
+    // The next word as a client's name.
+    fn name(&mut self, expected: Expected) -> Result<&'a [u8], Fault<'a>> {
+        let name = self.next;
+        if !is_name(name) {
+            return Err(self.fault(expected));
+        }
+        self.pass();
+        Ok(name)
     }
-    let found = Name {
-        at: start_from(text, at),
-        length: word(text, at).len(),
-    };
-    let mut q = passed(text, p);
-    q.name = found;
-    q
-}
 
-// Who may use a link.
-pub(crate) fn owner(text: &[u8], p: Parse) -> Parse {
-    let q = named(text, p, b"of", Fault::Of);
-    if !is_fine(q) {
-        return q;
+    // Who may use a link: a client, or all.
+    pub(crate) fn owner(&mut self) -> Result<Option<&'a [u8]>, Fault<'a>> {
+        self.named(b"of", Expected::Of)?;
+        if self.is_next(b"all") {
+            self.pass();
+            return Ok(None);
+        }
+        let name = self.name(Expected::Owner)?;
+        Ok(Some(name))
     }
-    if is_next(text, q, b"all") {
-        return passed(text, q);
-    }
-    name(text, q, Fault::Owner)
-}
 
-// One client.
-pub(crate) fn client(text: &[u8], p: Parse) -> Parse {
-    if !is_fine(p) {
-        return p;
+    // One client.
+    pub(crate) fn client(&mut self) -> Result<&'a [u8], Fault<'a>> {
+        if self.is_next(b"all") {
+            return Err(self.fault(Expected::Client));
+        }
+        self.name(Expected::Client)
     }
-    if is_next(text, p, b"all") {
-        return faulted(p, Fault::Client);
-    }
-    name(text, p, Fault::Client)
-}
 
-pub(crate) fn prefix(text: &[u8], p: Parse) -> Parse {
-    if !is_fine(p) {
-        return p;
+    pub(crate) fn prefix(&mut self) -> Result<Prefix, Fault<'a>> {
+        let Some(prefix) = prefix_of(self.next) else {
+            return Err(self.fault(Expected::Prefix));
+        };
+        if !flow::prefix_ok(prefix.address, prefix.length) {
+            return Err(self.fault(Expected::Bits(prefix)));
+        }
+        self.pass();
+        Ok(prefix)
     }
-    let at = p.at;
-    let found = prefix_of(word(text, at));
-    if found.length == NO_LENGTH {
-        return faulted(p, Fault::Prefix);
-    }
-    let mut q = p;
-    q.value = found.address;
-    q.length = found.length;
-    if !flow::prefix_ok(found.address, found.length) {
-        return faulted(q, Fault::Bits);
-    }
-    passed(text, q)
-}
 
-// Where a client's packets come in.
-pub(crate) fn place(text: &[u8], p: Parse) -> Parse {
-    switch(text, named(text, p, b"at", Fault::At))
+    // Where a client's packets come in.
+    pub(crate) fn place(&mut self) -> Result<u8, Fault<'a>> {
+        self.named(b"at", Expected::At)?;
+        self.switch()
+    }
 }

@@ -2,7 +2,6 @@
 // output, or a line on the first fault to standard error alone.
 #![tactic(auto)]
 
-mod errors;
 mod fields;
 mod network;
 mod output;
@@ -15,22 +14,24 @@ mod words;
 
 ghost use Rattle.std.specs.Prelude.{◌≡◌, ◌≤◌, length};
 
-use errors::warn;
+use network::Network;
+use output::Output;
+use prose::Errors;
+use std::fmt;
+use std::fmt::Write;
+use telling::Problem;
 
 const STDIN_FILENO: i32 = 0;
 
 const STDOUT_FILENO: i32 = 1;
 
-use lists::{behind, byte_at, front};
-use network::{Network, after_line, nothing};
-use output::{OUT, with_names};
-use telling::{tell_clientless, tell_most};
-use words::find_from;
-
 const TEXT: usize = 65536;
 
 // The longest text, and one byte further to tell a longer one.
 const SPACE: usize = TEXT + 1;
+
+// The byte-order mark that some editors write in front of a text.
+const MARK: [u8; 3] = [0xEF, 0xBB, 0xBF];
 
 fn for_text() -> [u8; SPACE]
     ensures { 65537 ≡ length result }
@@ -38,80 +39,54 @@ fn for_text() -> [u8; SPACE]
     [0u8; SPACE]
 }
 
-fn ends_at(b: u8) -> usize
-    ensures { result ≤ 1 }
-{
-    if b == b'\n' { 1 } else { 0 }
+fn tell(number: usize, problem: Problem<'_>) -> fmt::Result {
+    let mut errors = Errors;
+    writeln!(errors, "{number}: {problem}")
 }
 
-// How many lines end in the first n bytes.
-fn ends_in(text: &[u8], n: usize) -> usize
-    ensures { result ≤ n }
-{
-    let mut found: usize = 0;
-    let mut i: usize = 0;
-    while i < n {
-        found += ends_at(byte_at(text, i));
-        i += 1;
+fn write(output: &Output) -> fmt::Result {
+    let mut errors = Errors;
+    if io::write_all(STDOUT_FILENO, output.bytes()) {
+        Ok(())
+    } else {
+        writeln!(errors, "not all of the output could be written")
     }
-    found
-}
-
-// Whether a text begins with a byte-order mark, as some editors write it.
-fn is_marked(text: &[u8]) -> bool {
-    byte_at(text, 0) == 0xEF && byte_at(text, 1) == 0xBB && byte_at(text, 2) == 0xBF
 }
 
 // An empty text has one line, as an editor shows it.
-fn last_line(lines: usize) -> usize {
-    if lines == 0 { 1 } else { lines }
-}
-
-fn write(bytes: &[u8; OUT], count: usize) {
-    if !io::write_all(STDOUT_FILENO, front(bytes, count)) {
-        warn(b"not all of the output could be written\n");
-    }
-}
-
-// The end of a text of so many lines.
-fn finish(text: &[u8], network: Network, lines: usize) {
-    let entries = network.entries;
-    let names = network.names;
-    let made = network.made;
-    if entries.count == 0 {
-        tell_clientless(last_line(lines));
-        return;
-    }
-    let whole = with_names(text, made, names);
-    let bytes = whole.bytes;
-    write(&bytes, whole.count);
-}
-
-fn assemble(text: &[u8]) {
-    let mut network = nothing();
-    let mut line: usize = 0;
-    let mut at: usize = 0;
-    while at < text.len() {
-        line += 1;
-        let next = after_line(text, network, at, line);
-        if next.faulty {
-            return;
+fn assemble(text: &[u8]) -> fmt::Result {
+    let mut network = Network::new();
+    let mut last = 1;
+    for (number, line) in (1..).zip(text.split_inclusive(|b| *b == b'\n')) {
+        if let Err(problem) = network.add_line(line, number) {
+            return tell(number, problem);
         }
-        network = next;
-        at = find_from(text, at, b'\n') + 1;
+        last = number;
     }
-    finish(text, network, line);
+    match network.finished() {
+        Ok(output) => write(&output),
+        Err(problem) => tell(last, problem),
+    }
 }
 
-fn main() {
+// How many lines end in a text.
+fn ends_in(text: &[u8]) -> usize
+    ensures { result ≤ length text.now }
+{
+    text.iter().filter(|b| **b == b'\n').count()
+}
+
+// The bytes of a text, or why it is refused.
+fn turn(text: &[u8]) -> fmt::Result {
+    if TEXT < text.len() {
+        let ends = ends_in(&text[..TEXT]);
+        return tell(1 + ends, Problem::TooMany(TEXT, "bytes of text"));
+    }
+    assemble(text.strip_prefix(&MARK).unwrap_or(text))
+}
+
+fn main() -> fmt::Result {
     let mut space = for_text();
     let n = io::read_full(STDIN_FILENO, &mut space);
-    let text = &space[..n];
-    if n == SPACE {
-        tell_most(1 + ends_in(text, TEXT), TEXT, b" bytes of text");
-    } else if is_marked(text) {
-        assemble(behind(text, 3));
-    } else {
-        assemble(text);
-    }
+    turn(&space[..n])
 }

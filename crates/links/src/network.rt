@@ -1,125 +1,100 @@
 // The network as the lines so far have it, and what a further line adds to it.
-use crate::output::{Made, nothing_made, with_entry, with_link};
-use crate::parse::{Name, is_fine};
+use crate::output::Output;
 use crate::records::{Entry, Link, Record, record_of};
-use crate::seen::{
-    NAMES, NO_CLIENT, Names, Seen, client_of, letters, line_of, no_names, nothing_seen, with_key,
-    with_name,
-};
-use crate::telling::{tell, tell_entered, tell_linked, tell_most};
-use crate::words::word;
+use crate::seen::{Key, NAMES, Names, Seen};
+use crate::telling::Problem;
+use crate::words::Words;
 
 const LINKS: usize = 256;
 
 const ENTRIES: usize = 64;
 
-// The ports that have links, the client lines, the names, the bytes, and whether a fault was told.
+// The ports that have links, the client lines, the names, and the bytes.
 #[derive(Clone, Copy)]
-pub(crate) struct Network {
-    pub(crate) ports: Seen,
-    pub(crate) entries: Seen,
-    pub(crate) names: Names,
-    pub(crate) made: Made,
-    pub(crate) faulty: bool,
+pub(crate) struct Network<'a> {
+    ports: Seen,
+    entries: Seen,
+    names: Names<'a>,
+    output: Output,
 }
 
-pub(crate) fn nothing() -> Network {
-    Network {
-        ports: nothing_seen(),
-        entries: nothing_seen(),
-        names: no_names(),
-        made: nothing_made(),
-        faulty: false,
+impl<'a> Network<'a> {
+    pub(crate) fn new() -> Network<'a> {
+        Network {
+            ports: Seen::new(),
+            entries: Seen::new(),
+            names: Names::new(),
+            output: Output::new(),
+        }
     }
-}
 
-fn stopped(network: Network) -> Network {
-    let mut next = network;
-    next.faulty = true;
-    next
-}
+    fn client_of(&mut self, name: &'a [u8]) -> Result<u8, Problem<'a>> {
+        self.names
+            .client_of(name)
+            .ok_or(Problem::TooMany(NAMES, "different names"))
+    }
 
-// A number for each port of each switch, and one for each client line.
-fn port_key(link: Link) -> u64 {
-    (link.switch as u64) * 65536 + (link.port as u64)
-}
+    fn add_link(&mut self, link: Link, owner: u8, number: usize) -> Result<(), Problem<'a>> {
+        let key = Key::OfPort(link.switch, link.port);
+        if let Some(earlier) = self.ports.line_of(key) {
+            return Err(Problem::Linked(link, earlier));
+        }
+        if LINKS <= self.ports.count() {
+            return Err(Problem::TooMany(LINKS, "links"));
+        }
+        self.ports.push(key, number);
+        self.output.push_link(link, owner);
+        Ok(())
+    }
 
-fn entry_key(entry: Entry, client: u8) -> u64 {
-    let from = (client as u64) * 0x1_0000_0000 + (entry.prefix as u64);
-    (from * 256 + (entry.length as u64)) * 256 + (entry.switch as u64)
-}
+    fn add_entry(
+        &mut self,
+        entry: Entry,
+        name: &'a [u8],
+        number: usize,
+    ) -> Result<(), Problem<'a>> {
+        let client = self.client_of(name)?;
+        let key = Key::OfClient(client, entry);
+        if let Some(earlier) = self.entries.line_of(key) {
+            return Err(Problem::Entered(name, entry, earlier));
+        }
+        if ENTRIES <= self.entries.count() {
+            return Err(Problem::TooMany(ENTRIES, "client lines"));
+        }
+        self.entries.push(key, number);
+        self.output.push_entry(entry, client);
+        Ok(())
+    }
 
-fn after_link(network: Network, link: Link, owner: u8, line: usize) -> Network {
-    let ports = network.ports;
-    let made = network.made;
-    let key = port_key(link);
-    let earlier = line_of(ports, key);
-    if earlier != 0 {
-        tell_linked(line, link, earlier);
-        return stopped(network);
+    // One line more, with its number. A link that belongs to all has owner 0.
+    pub(crate) fn add_line(&mut self, line: &'a [u8], number: usize) -> Result<(), Problem<'a>> {
+        let words = Words::new(line);
+        if words.next.is_empty() {
+            return Ok(());
+        }
+        match record_of(words) {
+            Err(fault) => Err(Problem::Faulty(words, fault)),
+            Ok(Record::OfLink(link, None)) => self.add_link(link, 0, number),
+            Ok(Record::OfLink(link, Some(name))) => {
+                let owner = self.client_of(name)?;
+                self.add_link(link, owner, number)
+            }
+            Ok(Record::OfClient(entry, name)) => self.add_entry(entry, name, number),
+        }
     }
-    if LINKS <= ports.count {
-        tell_most(line, LINKS, b" links");
-        return stopped(network);
-    }
-    let more = with_key(ports, key, line);
-    let longer = with_link(made, link, owner);
-    let mut next = network;
-    next.ports = more;
-    next.made = longer;
-    next
-}
 
-fn after_entry(network: Network, entry: Entry, client: u8, letters: &[u8], line: usize) -> Network {
-    let entries = network.entries;
-    let made = network.made;
-    let key = entry_key(entry, client);
-    let earlier = line_of(entries, key);
-    if earlier != 0 {
-        tell_entered(line, letters, entry, earlier);
-        return stopped(network);
+    // The bytes of the network: its records, and its names. There is none without a client line.
+    pub(crate) fn finished(self) -> Result<Output, Problem<'a>> {
+        let Network {
+            ports: _,
+            entries,
+            names,
+            mut output,
+        } = self;
+        if entries.count() == 0 {
+            return Err(Problem::Clientless);
+        }
+        output.push_names(names.names());
+        Ok(output)
     }
-    if ENTRIES <= entries.count {
-        tell_most(line, ENTRIES, b" client lines");
-        return stopped(network);
-    }
-    let more = with_key(entries, key, line);
-    let longer = with_entry(made, entry, client);
-    let mut next = network;
-    next.entries = more;
-    next.made = longer;
-    next
-}
-
-fn after_record(text: &[u8], network: Network, record: Record, name: Name, line: usize) -> Network {
-    let names = network.names;
-    let known = with_name(text, names, name);
-    let client = client_of(text, known, name);
-    if client == NO_CLIENT {
-        tell_most(line, NAMES, b" different names");
-        return stopped(network);
-    }
-    let mut next = network;
-    next.names = known;
-    match record {
-        Record::Nothing => next,
-        Record::OfLink(link) => after_link(next, link, client, line),
-        Record::OfClient(entry) => after_entry(next, entry, client, letters(text, name), line),
-    }
-}
-
-// After the line that begins at this place.
-pub(crate) fn after_line(text: &[u8], network: Network, at: usize, line: usize) -> Network {
-    if word(text, at).len() == 0 {
-        return network;
-    }
-    let found = record_of(text, at);
-    let p = found.parse;
-    if !is_fine(p) {
-        tell(line, text, at, p);
-        return stopped(network);
-    }
-    let record = found.record;
-    let name = p.name;
-    after_record(text, network, record, name, line)
 }

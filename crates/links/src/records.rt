@@ -1,77 +1,60 @@
 // The record of a line: a link, or a client line.
-use crate::fields::{client, next, owner, place, port, prefix, switch};
-use crate::parse::{Fault, Parse, begun, ended, faulted, is_next, passed};
+use crate::parse::{Expected, Fault};
+use crate::values::Prefix;
+use crate::words::Words;
 
 // The link at a port of a switch, and what it leads to.
 #[derive(Clone, Copy)]
 pub(crate) struct Link {
     pub(crate) switch: u8,
     pub(crate) port: u16,
-    pub(crate) next: u8,
+    pub(crate) far: u8,
 }
 
 // The switch at which a client's packets to these addresses come in.
-#[derive(Clone, Copy)]
+#[derive(Clone, Copy, PartialEq, Eq)]
 pub(crate) struct Entry {
-    pub(crate) prefix: u32,
-    pub(crate) length: u8,
+    pub(crate) prefix: Prefix,
     pub(crate) switch: u8,
 }
 
+// A link belongs to a client or to all, a client line to a client. A client is named.
 #[derive(Clone, Copy)]
-pub(crate) enum Record {
-    Nothing,
-    OfLink(Link),
-    OfClient(Entry),
+pub(crate) enum Record<'a> {
+    OfLink(Link, Option<&'a [u8]>),
+    OfClient(Entry, &'a [u8]),
 }
 
-// A record, whose client's name is in the parse.
-#[derive(Clone, Copy)]
-pub(crate) struct Line {
-    pub(crate) parse: Parse,
-    pub(crate) record: Record,
-}
-
-fn read_link(text: &[u8], p: Parse) -> Line {
-    let of = switch(text, p);
-    let at = port(text, of);
-    let to = next(text, at);
+fn read_link(mut words: Words<'_>) -> Result<Record<'_>, Fault<'_>> {
     let link = Link {
-        switch: (of.value % 256) as u8,
-        port: (at.value % 65536) as u16,
-        next: (to.value % 256) as u8,
+        switch: words.switch()?,
+        port: words.port()?,
+        far: words.far()?,
     };
-    Line {
-        parse: ended(text, owner(text, to)),
-        record: Record::OfLink(link),
-    }
+    let owner = words.owner()?;
+    words.ended()?;
+    Ok(Record::OfLink(link, owner))
 }
 
-fn read_entry(text: &[u8], p: Parse) -> Line {
-    let to = prefix(text, client(text, p));
-    let at = place(text, to);
+fn read_entry(mut words: Words<'_>) -> Result<Record<'_>, Fault<'_>> {
+    let client = words.client()?;
     let entry = Entry {
-        prefix: to.value,
-        length: to.length,
-        switch: (at.value % 256) as u8,
+        prefix: words.prefix()?,
+        switch: words.place()?,
     };
-    Line {
-        parse: ended(text, at),
-        record: Record::OfClient(entry),
-    }
+    words.ended()?;
+    Ok(Record::OfClient(entry, client))
 }
 
-// The record of a line that has words and begins at this place.
-pub(crate) fn record_of(text: &[u8], at: usize) -> Line {
-    let p = begun(at);
-    if is_next(text, p, b"link") {
-        return read_link(text, passed(text, p));
+// The record of a line that has words.
+pub(crate) fn record_of(mut words: Words<'_>) -> Result<Record<'_>, Fault<'_>> {
+    if words.is_next(b"link") {
+        words.pass();
+        return read_link(words);
     }
-    if is_next(text, p, b"client") {
-        return read_entry(text, passed(text, p));
+    if words.is_next(b"client") {
+        words.pass();
+        return read_entry(words);
     }
-    Line {
-        parse: faulted(p, Fault::Record),
-        record: Record::Nothing,
-    }
+    Err(words.fault(Expected::Record))
 }

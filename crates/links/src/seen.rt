@@ -1,100 +1,102 @@
-// What earlier lines have: each port and each client line as a number, with its line, and each name.
-use crate::parse::Name;
-use lists::{behind, front, same};
+// What earlier lines have: each port and each client line, with its line, and each name.
+ghost use Rattle.std.specs.Prelude.{◌≤◌, length};
 
-// The most numbers, and the most names.
-const NUMBERS: usize = 256;
+use crate::records::Entry;
+
+// The most ports or client lines, and the most names.
+const PLACES: usize = 256;
 
 pub(crate) const NAMES: usize = 64;
 
-// The number of a client whose name has none.
-pub(crate) const NO_CLIENT: u8 = 255;
+// What no other line may have: a port of a switch, or a client's line.
+#[derive(Clone, Copy, PartialEq, Eq)]
+pub(crate) enum Key {
+    OfPort(u8, u16),
+    OfClient(u8, Entry),
+}
 
-// Numbers above 0, each with its line.
+#[derive(Clone, Copy)]
+struct Place {
+    key: Key,
+    line: usize,
+}
+
+// Keys, each with its line: the first `count` places are in use.
 #[derive(Clone, Copy)]
 pub(crate) struct Seen {
-    pub(crate) keys: [u64; NUMBERS],
-    pub(crate) lines: [usize; NUMBERS],
-    pub(crate) count: usize,
+    places: [Place; PLACES],
+    count: usize,
+    ghost inside: { count ≤ 256 },
 }
 
-// Names in the order in which they first stand in the text. Places without one have no letter.
+impl Seen {
+    pub(crate) fn new() -> Seen {
+        let none = Place {
+            key: Key::OfPort(0, 0),
+            line: 0,
+        };
+        Seen {
+            places: [none; PLACES],
+            count: 0,
+        }
+    }
+
+    pub(crate) fn count(&self) -> usize {
+        self.count
+    }
+
+    // The line that has this key.
+    pub(crate) fn line_of(&self, key: Key) -> Option<usize> {
+        for place in &self.places[..self.count] {
+            if place.key == key {
+                return Some(place.line);
+            }
+        }
+        None
+    }
+
+    pub(crate) fn push(&mut self, key: Key, line: usize) {
+        if self.count < PLACES {
+            self.places[self.count] = Place { key, line };
+            self.count += 1;
+        }
+    }
+}
+
+// Names in the order in which they first stand in the text: the first `count` places are in use.
 #[derive(Clone, Copy)]
-pub(crate) struct Names {
-    pub(crate) names: [Name; NAMES],
-    pub(crate) count: usize,
+pub(crate) struct Names<'a> {
+    names: [&'a [u8]; NAMES],
+    count: usize,
+    ghost inside: { count ≤ 64 },
 }
 
-pub(crate) fn nothing_seen() -> Seen {
-    Seen {
-        keys: [0; NUMBERS],
-        lines: [0; NUMBERS],
-        count: 0,
-    }
-}
-
-pub(crate) fn no_names() -> Names {
-    let none = Name { at: 0, length: 0 };
-    Names {
-        names: [none; NAMES],
-        count: 0,
-    }
-}
-
-// The line that has this number, or 0.
-pub(crate) fn line_of(seen: Seen, key: u64) -> usize {
-    let keys = seen.keys;
-    let lines = seen.lines;
-    let mut i: usize = 0;
-    while i < NUMBERS {
-        if keys[i] == key {
-            return lines[i];
-        }
-        i += 1;
-    }
-    0
-}
-
-pub(crate) fn with_key(seen: Seen, key: u64, line: usize) -> Seen {
-    let n = seen.count;
-    let mut more = seen;
-    if n < NUMBERS {
-        more.keys[n] = key;
-        more.lines[n] = line;
-        more.count = n + 1;
-    }
-    more
-}
-
-pub(crate) fn letters(text: &[u8], name: Name) -> &[u8] {
-    front(behind(text, name.at), name.length)
-}
-
-// A client is numbered from 1 by its name; all clients are 0.
-pub(crate) fn client_of(text: &[u8], known: Names, name: Name) -> u8 {
-    let names = known.names;
-    if name.length == 0 {
-        return 0;
-    }
-    let mut i: usize = 0;
-    while i < NAMES {
-        if same(letters(text, names[i]), letters(text, name)) {
-            return (i + 1) as u8;
-        }
-        i += 1;
-    }
-    NO_CLIENT
-}
-
-// With a name that is new, where there is room for one.
-pub(crate) fn with_name(text: &[u8], known: Names, name: Name) -> Names {
-    let n = known.count;
-    let mut more = known;
-    if client_of(text, known, name) == NO_CLIENT {
-        if n < NAMES {
-            more.names[n] = name;
-            more.count = n + 1;
+impl<'a> Names<'a> {
+    pub(crate) fn new() -> Names<'a> {
+        Names {
+            names: [b""; NAMES],
+            count: 0,
         }
     }
-    more
+
+    pub(crate) fn names(&self) -> &[&'a [u8]]
+        ensures { length result.now ≤ 64 }
+    {
+        &self.names[..self.count]
+    }
+
+    // A client is numbered from 1 by its name. One that is new is added, where there is room for it.
+    pub(crate) fn client_of(&mut self, name: &'a [u8]) -> Option<u8> {
+        for (i, known) in self.names().iter().enumerate() {
+            if *known == name {
+                return Some((i + 1) as u8);
+            }
+        }
+        if self.count == NAMES {
+            return None;
+        }
+        self.names[self.count] = name;
+        self.count += 1;
+        Some(self.count as u8)
+    }
 }

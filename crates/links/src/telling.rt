@@ -1,131 +1,93 @@
-// The line on standard error that tells a fault.
-use crate::errors::{warn, warn_number, warn_prefix, warn_word};
-use crate::parse::{Fault, Parse};
+// Why a text is refused, in the words that are told on standard error.
+use crate::parse::{Expected, Fault};
 use crate::records::{Entry, Link};
-use crate::words::word;
-use lists::same;
+use crate::words::Words;
+use prose::{Found, Text};
+use std::fmt;
+use std::fmt::Write;
 
-fn tell_expected(number: usize) {
-    warn_number(number as u64);
-    warn(b": expected ");
-}
-
-// An address without its bits past a length.
-fn cleared(address: u32, length: u8) -> u32 {
-    if length == 0 {
-        return 0;
-    }
-    if 32 < length {
-        return address;
-    }
-    let n = 32 - length;
-    address >> n << n
-}
-
-fn warn_cleared(address: u32, length: u8) {
-    warn_prefix(cleared(address, length), length);
-    warn(b", with 0 in every bit past the length");
-}
-
-fn warn_expected(p: Parse) {
-    let fault = p.fault;
-    match fault {
-        Fault::None => warn(b""),
-        Fault::Record => warn(b"link or client"),
-        Fault::Switch => warn(b"switch"),
-        Fault::Port => warn(b"port"),
-        Fault::To => warn(b"to"),
-        Fault::Of => warn(b"of"),
-        Fault::At => warn(b"at"),
-        Fault::SwitchNumber => warn(b"a switch, 0 to 15"),
-        Fault::PortNumber => warn(b"a port, 1 to 65535"),
-        Fault::Next => warn(b"switch or outside"),
-        Fault::Prefix => warn(b"an address and a length, 0 to 32, as 10.1.0.0/16"),
-        Fault::Bits => warn_cleared(p.value, p.length),
-        Fault::Owner => warn(b"all, or a client's name of 1 to 32 letters, digits, - or _"),
-        Fault::Client => warn(b"a client's name of 1 to 32 letters, digits, - or _, and not all"),
-        Fault::End => warn(b"the end of the line"),
+impl fmt::Display for Expected {
+    fn fmt<W: fmt::Write>(&self, f: &mut fmt::Formatter<W>) -> fmt::Result {
+        let words = match self {
+            Expected::Record => "link or client",
+            Expected::Switch => "switch",
+            Expected::Port => "port",
+            Expected::To => "to",
+            Expected::Of => "of",
+            Expected::At => "at",
+            Expected::SwitchNumber => "a switch, 0 to 15",
+            Expected::PortNumber => "a port, 1 to 65535",
+            Expected::Next => "switch or outside",
+            Expected::Prefix => "an address and a length, 0 to 32, as 10.1.0.0/16",
+            Expected::Bits(prefix) => {
+                let cleared = prefix.cleared();
+                return write!(f, "{cleared}, with 0 in every bit past the length");
+            }
+            Expected::Owner => "all, or a client's name of 1 to 32 letters, digits, - or _",
+            Expected::Client => "a client's name of 1 to 32 letters, digits, - or _, and not all",
+            Expected::End => "the end of the line",
+        };
+        f.write_str(words)
     }
 }
 
-fn warn_found(word: &[u8]) {
-    if word.len() == 0 {
-        warn(b"the end of the line");
-    } else {
-        warn_word(word);
+// Why a text is refused at a line.
+#[derive(Clone, Copy)]
+pub(crate) enum Problem<'a> {
+    // The line that begins with these words has a fault.
+    Faulty(Words<'a>, Fault<'a>),
+    // A port has a link in an earlier line.
+    Linked(Link, usize),
+    // An earlier line says the same of a client.
+    Entered(&'a [u8], Entry, usize),
+    // There are more than may be, from this line on.
+    TooMany(usize, &'static str),
+    // The text, whose last line this is, has no client line.
+    Clientless,
+}
+
+// Of which form a line is. The form helps, but where what was expected is said in full.
+fn form_of(words: Words<'_>, expected: Expected) -> &'static str {
+    match expected {
+        Expected::Record | Expected::Bits(_) => "",
+        _ if words.is_next(b"link") => {
+            "; the line's form is: link switch S port P to NEXT of OWNER, \
+            with NEXT as switch 4 or outside, and OWNER as A or all"
+        }
+        _ => { "; the line's form is: client NAME PREFIX at switch S, with PREFIX as 10.1.0.0/16" }
     }
 }
 
-// Of which form a line is that begins with this name.
-fn warn_form(name: &[u8]) {
-    warn(b"; the line's form is: ");
-    if same(name, b"link") {
-        warn(b"link switch S port P to NEXT of OWNER");
-        warn(b", with NEXT as switch 4 or outside, and OWNER as A or all");
-    } else {
-        warn(b"client NAME PREFIX at switch S, with PREFIX as 10.1.0.0/16");
+impl fmt::Display for Problem<'_> {
+    fn fmt<W: fmt::Write>(&self, f: &mut fmt::Formatter<W>) -> fmt::Result {
+        match self {
+            Problem::Faulty(words, fault) => {
+                let expected = fault.expected;
+                let found = Found(fault.found);
+                let form = form_of(*words, expected);
+                write!(f, "expected {expected}, found {found}{form}")
+            }
+            Problem::Linked(link, earlier) => {
+                let switch = link.switch;
+                let port = link.port;
+                write!(
+                    f,
+                    "switch {switch} has a link at port {port} already, in line {earlier}"
+                )
+            }
+            Problem::Entered(name, entry, earlier) => {
+                let client = Text(name);
+                let prefix = entry.prefix;
+                let switch = entry.switch;
+                write!(
+                    f,
+                    "client {client} has {prefix} at switch {switch} already, in line {earlier}"
+                )
+            }
+            Problem::TooMany(most, of) => write!(f, "expected at most {most} {of}, found more"),
+            Problem::Clientless => f.write_str(
+                "expected a client line, as client A 10.1.0.0/16 at switch 1, found the end of the text",
+            ),
+        }
     }
-}
-
-// The form helps, but where what was expected is said in full.
-fn hint(name: &[u8], fault: Fault) {
-    match fault {
-        Fault::None | Fault::Record | Fault::Bits => warn(b""),
-        _ => warn_form(name),
-    }
-}
-
-// The fault of the line that begins at this place and has this number.
-pub(crate) fn tell(number: usize, text: &[u8], start: usize, p: Parse) {
-    let at = p.at;
-    let fault = p.fault;
-    tell_expected(number);
-    warn_expected(p);
-    warn(b", found ");
-    warn_found(word(text, at));
-    hint(word(text, start), fault);
-    warn(b"\n");
-}
-
-fn tell_already(earlier: usize) {
-    warn(b" already, in line ");
-    warn_number(earlier as u64);
-    warn(b"\n");
-}
-
-// A port has a link in an earlier line.
-pub(crate) fn tell_linked(number: usize, link: Link, earlier: usize) {
-    warn_number(number as u64);
-    warn(b": switch ");
-    warn_number(link.switch as u64);
-    warn(b" has a link at port ");
-    warn_number(link.port as u64);
-    tell_already(earlier);
-}
-
-// An earlier line says the same of a client.
-pub(crate) fn tell_entered(number: usize, name: &[u8], entry: Entry, earlier: usize) {
-    warn_number(number as u64);
-    warn(b": client ");
-    warn(name);
-    warn(b" has ");
-    warn_prefix(entry.prefix, entry.length);
-    warn(b" at switch ");
-    warn_number(entry.switch as u64);
-    tell_already(earlier);
-}
-
-// There are more than may be, from this line on.
-pub(crate) fn tell_most(number: usize, most: usize, of: &[u8]) {
-    tell_expected(number);
-    warn(b"at most ");
-    warn_number(most as u64);
-    warn(of);
-    warn(b", found more\n");
-}
-
-// The text, whose last line this is, has no client line.
-pub(crate) fn tell_clientless(number: usize) {
-    tell_expected(number);
-    warn(b"a client line, as client A 10.1.0.0/16 at switch 1, found the end of the text\n");
 }

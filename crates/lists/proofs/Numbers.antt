@@ -15,6 +15,7 @@ use lib.Seq.{take-add, drop-drop, drop-cons, length-take-le, get_or-drop}
 use borrow.Author.Tests.{ltb-true}
 use Rattle.answer.proofs.Bools.{and_parts}
 use Rattle.lists.specs.Arrays.{every}
+use Rattle.std.specs.Int.{bytes_high_first}
 use Rattle.lists.specs.Bytes.{be, num, field, AreBytes}
 
 pub pos : (k : ℕ) → 0 < 256 ^ k
@@ -62,24 +63,16 @@ be-add (suc a) b x =
 pub be_split : (a b x : ℕ) → be (a + b) x ≡ be a (x / 256 ^ b) ++ be b (x % 256 ^ b)
 be_split a b x = be-add a b x ∙ ap (λ (l : List ℕ). be a (x / 256 ^ b) ++ l) (sym (be-mod b x))
 
+-- the bytes that the library makes of a number are these
+pub be_high_first : (k x : ℕ) → be k x ≡ bytes_high_first k x
+unfolding be
+be_high_first zero x = refl
+be_high_first (suc zero) x = let p : x / 256 ^ 0 % 256 ≡ x % 256 = omega arith in ap (λ (y : ℕ). y ∷ []) p
+be_high_first (suc (suc k)) x = ap (λ (l : List ℕ). x / 256 ^ suc k % 256 ∷ l) (be_high_first (suc k) x)
+
 pub be_one : (x : ℕ) → x < 256 → be 1 x ≡ x ∷ []
 unfolding be
 be_one x h = let p : x / 256 ^ 0 % 256 ≡ x = omega arith in ap (λ (y : ℕ). y ∷ []) p
-
-pub be_two : (x : ℕ) → x < 65536 → be 2 x ≡ x / 256 ∷ x % 256 ∷ []
-unfolding be
-be_two x h =
-    let p : x / 256 ^ 1 % 256 ≡ x / 256 = omega arith in
-    let q : x / 256 ^ 0 % 256 ≡ x % 256 = omega arith in
-    ap₂ (λ (y z : ℕ). y ∷ z ∷ []) p q
-
-pub be_four : (x : ℕ) → x < 2 ^ 32
-    → be 4 x ≡ x / 0x100_0000 ∷ x / 0x1_0000 % 256 ∷ x / 256 % 256 ∷ x % 256 ∷ []
-unfolding be
-be_four x h =
-    let p : x / 256 ^ 3 % 256 ≡ x / 0x100_0000 = omega arith in
-    let q : x / 256 ^ 0 % 256 ≡ x % 256 = omega arith in
-    ap₂ (λ (y z : ℕ). y ∷ x / 0x1_0000 % 256 ∷ x / 256 % 256 ∷ z ∷ []) p q
 
 -- a number from its low bytes, and from all of them
 pub num-mod : (k x : ℕ) → num (be k x) ≡ x % 256 ^ k

@@ -7,6 +7,7 @@ use native.Mathlib.Numerals.{add-one}
 use native.Mathlib.Omega.{arith}
 use lib.ListN.{length, take, drop, set, get_or, replicate, length-drop, take-append-drop}
 use lib.Seq.{take-suc, length-take-le, drop-append_seam}
+use Rattle.std.proofs.lemmas.List.{drop-replicate}
 use Rattle.lists.specs.Arrays.{pad, every}
 use Rattle.lists.proofs.Tails.{every-replicate, replicate-every}
 
@@ -33,6 +34,10 @@ module _ {A : Type 0} where
   pad_split (suc n) z (x ∷ xs) h =
       let e : suc n - suc (length xs) ≡ n - length xs = omega arith in
       rw e (ap (λ (l : List A). x ∷ l) (pad_split n z xs (omega arith)))
+
+  -- what is padded, written over the front of what it is padded with
+  pub pad_written : (n : ℕ) (z : A) (l : List A) → length l ≤ n → l ++ drop (length l) (replicate n z) ≡ pad n z l
+  pad_written n z l h = rw (drop-replicate (length l) n z) (sym (pad_split n z l h))
 
   pub pad-take : (n : ℕ) (z : A) (l : List A) → length l ≤ n → take (length l) (pad n z l) ≡ l
   unfolding pad

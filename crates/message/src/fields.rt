@@ -18,17 +18,6 @@ pub(crate) fn u32_at(s: &[u8], at: usize) -> u32
     lists::u32_of(s[at], s[at + 1], s[at + 2], s[at + 3])
 }
 
-pub(crate) fn put_tag(part: &mut [u8], at: usize, t: [u8; tag::LENGTH])
-    requires { at + tag_length ≤ length part.old }
-    ensures { part.new ≡ sets part.old at t }
-{
-    let mut i: usize = 0;
-    while i < tag::LENGTH {
-        part[at + i] = t[i];
-        i += 1;
-    }
-}
-
 // The tag of the first n bytes, put after them.
 pub(crate) fn seal(part: &mut [u8], n: usize, key: &[u8])
     requires { n + tag_length ≤ length part.old }
@@ -36,5 +25,5 @@ pub(crate) fn seal(part: &mut [u8], n: usize, key: &[u8])
         ≡ sets part.old n (tag_of key.now (take n part.old)) }
 {
     let t = tag::tag(key, &part[..n]);
-    put_tag(part, n, t);
+    part[n..n + tag::LENGTH].copy_from_slice(&t);
 }

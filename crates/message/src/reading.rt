@@ -55,23 +55,9 @@ pub fn number(m: Message) -> u8
     ensures { result ≡ (message_said m).0 }
 {
     match m {
-        Message::Event {
-            switch: _,
-            controller: _,
-            serial: _,
-            cause: _,
-        } => answer::DONE,
-        Message::Share {
-            controller: _,
-            switch: _,
-            number: _,
-            rule: _,
-        } => answer::DONE,
-        Message::Acknowledgement {
-            switch: _,
-            controller: _,
-            number: _,
-        } => answer::DONE,
+        Message::Event { .. } | Message::Share { .. } | Message::Acknowledgement { .. } => {
+            answer::DONE
+        }
         Message::Refused(k) => k,
     }
 }

@@ -1,6 +1,6 @@
 // The sender and the receiver that a received message names.
-ghost use Rattle.std.specs.Prelude.{◌≡◌, leb};
-ghost use Rattle.answer.specs.Ask.{pick, first_no};
+ghost use Rattle.std.specs.Prelude.{◌≡◌};
+ghost use Rattle.answer.specs.Ask.{first_no};
 ghost use Rattle.message.specs.Keys.{key_at};
 ghost use Rattle.message.specs.Reading.{is_sealed};
 ghost use Rattle.message.specs.Senders.{sender_questions};
@@ -8,20 +8,13 @@ ghost use Rattle.message.specs.Senders.{sender_questions};
 use crate::keys;
 use crate::reading::is_sealed;
 
-fn at_most(n: usize, limit: usize) -> usize
-    ensures { result ≡ pick (leb n limit) n limit }
-{
-    if n <= limit { n } else { limit }
-}
-
 // Question 14, with the sender's key; a key store that ends before has less of it, or nothing.
 fn is_sealed_by(keys: &[u8], sender: u8, bytes: &[u8]) -> bool
     ensures { result ≡ is_sealed (key_at keys.now sender) bytes.now }
 {
-    let at = keys::LENGTH * (sender as usize);
-    let from = at_most(at, keys.len());
-    let to = at_most(at + keys::LENGTH, keys.len());
-    is_sealed(&keys[from..to], bytes)
+    let at = keys::LENGTH * usize::from(sender);
+    let key = lists::front(lists::behind(keys, at), keys::LENGTH);
+    is_sealed(key, bytes)
 }
 
 // Questions 12, 13 and 14, at the end with an id, to which the first `known` of the other ends may send: 0, or the

@@ -13,14 +13,15 @@ pub(crate) fn read_share(s: &[u8]) -> Message
     requires { length s.now ≡ share_length }
     ensures { result ≡ share_of s.now }
 {
-    let prefix = u32_at(s, layout::PREFIX_AT);
-    let port = u16_at(s, layout::PORT_AT);
-    let rule = flow::rule_of(prefix, s[layout::LENGTH_AT], port);
     Message::Share {
         controller: s[layout::SENDER_AT],
         switch: s[layout::RECEIVER_AT],
         number: u32_at(s, layout::NUMBER_AT),
-        rule: rule,
+        rule: flow::rule_of(
+            u32_at(s, layout::PREFIX_AT),
+            s[layout::LENGTH_AT],
+            u16_at(s, layout::PORT_AT),
+        ),
     }
 }
 
@@ -29,13 +30,11 @@ pub(crate) fn put_share(part: &mut [u8], controller: u8, switch: u8, number: u32
     ensures { part.new
         ≡ sets part.old 0 (share_bytes controller switch number rule) }
 {
-    let action = rule.action;
-    let port = flow::port_of(action);
     put_u8(part, layout::KIND_AT, layout::SHARE);
     put_u8(part, layout::SENDER_AT, controller);
     put_u8(part, layout::RECEIVER_AT, switch);
     put_u32(part, layout::NUMBER_AT, number);
     put_u32(part, layout::PREFIX_AT, rule.prefix);
     put_u8(part, layout::LENGTH_AT, rule.length);
-    put_u16(part, layout::PORT_AT, port);
+    put_u16(part, layout::PORT_AT, flow::port_of(rule.action));
 }

@@ -50,23 +50,9 @@ pub fn length_of(m: Message) -> usize
     ensures { result ≡ length_of m }
 {
     match m {
-        Message::Event {
-            switch: _,
-            controller: _,
-            serial: _,
-            cause: _,
-        } => layout::EVENT_LENGTH,
-        Message::Share {
-            controller: _,
-            switch: _,
-            number: _,
-            rule: _,
-        } => layout::SHARE_LENGTH,
-        Message::Acknowledgement {
-            switch: _,
-            controller: _,
-            number: _,
-        } => layout::ACKNOWLEDGEMENT_LENGTH,
+        Message::Event { .. } => layout::EVENT_LENGTH,
+        Message::Share { .. } => layout::SHARE_LENGTH,
+        Message::Acknowledgement { .. } => layout::ACKNOWLEDGEMENT_LENGTH,
         Message::Refused(_) => 0,
     }
 }
@@ -76,27 +62,8 @@ fn port_said(m: Message) -> bool
     ensures { result ≡ port_said m }
 {
     match m {
-        Message::Event {
-            switch: _,
-            controller: _,
-            serial: _,
-            cause: _,
-        } => true,
-        Message::Share {
-            controller: _,
-            switch: _,
-            number: _,
-            rule,
-        } => {
-            let action = rule.action;
-            flow::port_ok(action)
-        }
-        Message::Acknowledgement {
-            switch: _,
-            controller: _,
-            number: _,
-        } => true,
-        Message::Refused(_) => true,
+        Message::Share { rule, .. } => flow::port_ok(rule.action),
+        Message::Event { .. } | Message::Acknowledgement { .. } | Message::Refused(_) => true,
     }
 }
 

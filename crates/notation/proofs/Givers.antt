@@ -9,7 +9,8 @@ use Rattle.tag.specs.Tags.{is_tag}
 use Rattle.message.specs.Keys.{key_of}
 use Rattle.message.specs.Layout.{share_body}
 use Rattle.notation.specs.Pairs.{gives, giver_among}
-use Rattle.notation.specs.declared.Giver.TheVariants.{Nobody, Pair}
+use Rattle.notation.specs.declared.pairs.Pair.{Pair}
+use Rattle.std.specs.Prelude.{Option, Some, None}
 
 module _ (share : List ℕ) (i : ℕ) {body given : List ℕ} {b : Bool} (inside : i < 256)
     (front : body ≡ take share_body share) (behind : given ≡ drop share_body share)
@@ -20,7 +21,8 @@ module _ (share : List ℕ) (i : ℕ) {body given : List ℕ} {b : Bool} (inside
   left : 256 - i ≡ suc (256 - (i + 1))
   left = omega arith
 
-  pub giver_here : b ≡ true → Pair (i / 16) (i % 16) ≡ giver_among (256 - i) i share
+  pub giver_here : b ≡ true
+      → ◌≡◌ {A = Option Pair} (Some (record { controller = i / 16; switch = i % 16 })) (giver_among (256 - i) i share)
   unfolding giver_among
   giver_here e = rw (left, ← shown, e)
 
@@ -28,6 +30,6 @@ module _ (share : List ℕ) (i : ℕ) {body given : List ℕ} {b : Bool} (inside
   unfolding giver_among
   giver_next e = rw (left, ← shown, e)
 
-pub giver_end : (share : List ℕ) (i : ℕ) → 256 ≤ i → giver_among (256 - i) i share ≡ Nobody
+pub giver_end : (share : List ℕ) (i : ℕ) → 256 ≤ i → giver_among (256 - i) i share ≡ None
 unfolding giver_among
 giver_end share i h = let none : 256 - i ≡ 0 = omega arith in rw none

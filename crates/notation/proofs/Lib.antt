@@ -1,5 +1,4 @@
 -- Laws of the notation's tables, names and pairs.
-pub mod Places
 pub mod Fits
 pub mod Naming
 pub mod Givers

@@ -1,19 +1,12 @@
 -- The fields of records and messages, and how many bytes each has (document 01, "Bytes" and "Rehearsal program").
-use Rattle.std.specs.Prelude.{ℕ, ◌+◌, ◌-◌, List, [], ◌∷◌, eqb}
-use Rattle.answer.specs.Ask.{pick}
+use Rattle.std.specs.Prelude.{ℕ, ◌+◌, List, [], ◌∷◌}
 use Rattle.tag.specs.Tags.{tag_length}
 use Rattle.message.specs.Layout.{share_length}
-use Rattle.notation.specs.declared.Field.{Field}
-use Rattle.notation.specs.declared.Field.TheVariants as fields
-
--- the field at a place from 0, or `Nothing` past the last
-unfoldable pub field_at : List Field → ℕ → Field
-field_at [] i = fields.Nothing
-field_at (f ∷ fs) i = pick (eqb i 0) f (field_at fs (i - 1))
+use Rattle.notation.specs.declared.fields.Field.{Field}
+use Rattle.notation.specs.declared.fields.Field.TheVariants as fields
 
 -- bytes of a field
 abbrev pub width_of : Field → ℕ
-width_of fields.Nothing = 0
 width_of fields.Flow = 1
 width_of fields.Switch = 1
 width_of fields.Cause = 1

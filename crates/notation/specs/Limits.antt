@@ -10,7 +10,3 @@ text_limit = 1048576
 
 abbrev pub line_limit : ℕ
 line_limit = 64
-
--- the most letters of a name
-abbrev pub name_limit : ℕ
-name_limit = 10

@@ -1,47 +1,140 @@
-// The kinds of records (document 01, "Bytes" and "Rehearsal program") and how many bytes each has.
-// The same numbers as specs/Kinds.antt.
-ghost use Rattle.std.specs.Prelude.{◌≡◌};
-ghost use Rattle.notation.specs.Kinds.{record_size};
+// The kinds of records (document 01, "Bytes" and "Rehearsal program"): the first byte, the name, the fields and the size
+// of each. The same table as specs/Kinds.antt.
+ghost use Rattle.std.specs.Prelude.{◌≡◌, ◌≤◌};
+ghost use Rattle.notation.specs.Kinds.{byte_of, fields_of, record_size, Decodes};
+ghost use Rattle.notation.specs.Names.{kind_name, kind_named};
 
-use crate::MESSAGE_AT;
+use crate::{Field, MESSAGE_AT};
 
-pub const PLAN: u8 = 0x11;
+/// A kind of record: its first byte.
+#[derive(Clone, Copy, Debug, PartialEq, Eq)]
+pub enum Kind {
+    Plan = 0x11,
+    Change = 0x12,
+    End = 0x13,
+    Decide = 0x21,
+    Send = 0x22,
+    Report = 0x23,
+    Raw = 0x24,
+    Keep = 0x25,
+    Deliver = 0x26,
+}
 
-pub const CHANGE: u8 = 0x12;
+/// A byte with which no record begins.
+#[derive(Clone, Copy, Debug, PartialEq, Eq)]
+pub struct UnknownKind(pub u8);
 
-pub const END: u8 = 0x13;
+impl TryFrom<u8> for Kind {
+    type Error = UnknownKind;
 
-pub const DECIDE: u8 = 0x21;
+    ghost try_from_gives = { Decodes };
 
-pub const SEND: u8 = 0x22;
+    fn try_from(byte: u8) -> Result<Kind, UnknownKind> {
+        match byte {
+            0x11 => Ok(Kind::Plan),
+            0x12 => Ok(Kind::Change),
+            0x13 => Ok(Kind::End),
+            0x21 => Ok(Kind::Decide),
+            0x22 => Ok(Kind::Send),
+            0x23 => Ok(Kind::Report),
+            0x24 => Ok(Kind::Raw),
+            0x25 => Ok(Kind::Keep),
+            0x26 => Ok(Kind::Deliver),
+            _ => Err(UnknownKind(byte)),
+        }
+    }
+}
 
-pub const REPORT: u8 = 0x23;
+impl From<Kind> for u8 {
+    ghost from_gives = { λ kind byte. byte ≡ byte_of kind };
 
-pub const RAW: u8 = 0x24;
+    fn from(kind: Kind) -> u8 {
+        kind as u8
+    }
+}
 
-pub const KEEP: u8 = 0x25;
+impl Kind {
+    /// All of them, in the order of specs/Kinds.antt.
+    pub const ALL: [Kind; 9] = [
+        Kind::Plan,
+        Kind::Change,
+        Kind::End,
+        Kind::Decide,
+        Kind::Send,
+        Kind::Report,
+        Kind::Raw,
+        Kind::Keep,
+        Kind::Deliver,
+    ];
 
-pub const DELIVER: u8 = 0x26;
+    #[tactic(auto, unfolding(crate::specs::Names::kind_name, crate::specs::Kinds::of_kind))]
+    pub fn name(self) -> &'static str
+        ensures { result.now ≡ kind_name (byte_of self) }
+    {
+        match self {
+            Kind::Plan => "plan",
+            Kind::Change => "change",
+            Kind::End => "end",
+            Kind::Decide => "decide",
+            Kind::Send => "send",
+            Kind::Report => "report",
+            Kind::Raw => "raw",
+            Kind::Keep => "keep",
+            Kind::Deliver => "deliver",
+        }
+    }
 
-// All of them, in the order of specs/Kinds.antt.
-pub(crate) const COUNT: usize = 9;
+    /// What follows the kind.
+    #[tactic(auto, unfolding(crate::specs::Kinds::fields_of, crate::specs::Kinds::of_kind))]
+    pub fn fields(self) -> &'static [Field]
+        ensures { result.now ≡ fields_of (byte_of self) }
+    {
+        match self {
+            Kind::Plan => &[Field::Switch, Field::Cause],
+            Kind::Change => &[Field::Flow, Field::Switch, Field::Rule],
+            Kind::End => &[],
+            Kind::Decide => &[
+                Field::Controller,
+                Field::Switch,
+                Field::Serial,
+                Field::Cause,
+            ],
+            Kind::Send => &[Field::Controller, Field::Switch],
+            Kind::Report => &[Field::Switch, Field::Controller],
+            Kind::Raw => &[Field::Switch, Field::Message],
+            Kind::Keep => &[Field::Controller, Field::Switch, Field::Place],
+            Kind::Deliver => &[Field::Place],
+        }
+    }
 
-pub(crate) const ALL: [u8; COUNT] = [PLAN, CHANGE, END, DECIDE, SEND, REPORT, RAW, KEEP, DELIVER];
+    /// The bytes of a record, its kind among them.
+    #[tactic(auto, unfolding(crate::specs::Kinds::record_size, crate::specs::Kinds::of_kind, crate::specs::Fields::widths))]
+    pub fn size(self) -> usize
+        ensures table { result ≡ record_size (byte_of self) }
+        ensures some { 1 ≤ result }
+    {
+        match self {
+            Kind::Plan => 3,
+            Kind::Change => 10,
+            Kind::End => 1,
+            Kind::Decide => 8,
+            Kind::Send => 3,
+            Kind::Report => 3,
+            Kind::Raw => MESSAGE_AT + message::layout::SHARE_LENGTH,
+            Kind::Keep => 4,
+            Kind::Deliver => 2,
+        }
+    }
 
-// The bytes of a record, its kind among them; 0 where no record has this kind.
-pub fn size_of(kind: u8) -> usize
-    ensures { result ≡ record_size kind }
-{
-    match kind {
-        PLAN => 3,
-        CHANGE => 10,
-        END => 1,
-        DECIDE => 8,
-        SEND => 3,
-        REPORT => 3,
-        RAW => MESSAGE_AT + message::layout::SHARE_LENGTH,
-        KEEP => 4,
-        DELIVER => 2,
-        _ => 0,
+    /// The kind whose records have this name.
+    pub fn named(word: &[u8]) -> Option<Kind>
+        ensures { result ≡ kind_named word.now }
+    {
+        for kind in Kind::ALL {
+            if word == kind.name().as_bytes() {
+                return Some(kind);
+            }
+        }
+        None
     }
 }

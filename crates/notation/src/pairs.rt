@@ -4,7 +4,6 @@ ghost use Rattle.tag.specs.Tags.{is_tag};
 ghost use Rattle.message.specs.Keys.{key_of};
 ghost use Rattle.notation.specs.Pairs.{tag_by, giver_of};
 
-use crate::Giver;
 use lists::{behind, front};
 use message::{keys, layout};
 
@@ -24,23 +23,27 @@ fn gives(controller: u8, switch: u8, body: &[u8], given: &[u8]) -> bool
     tag::same(&right, given)
 }
 
-// The first pair, by controller and then by switch, whose key gives a share the tag that it has.
-pub fn giver_of(share: &[u8]) -> Giver
+/// A controller and a switch, whose key is meant.
+#[derive(Clone, Copy, Debug, PartialEq, Eq)]
+pub struct Pair {
+    pub controller: u8,
+    pub switch: u8,
+}
+
+/// The first pair, by controller and then by switch, whose key gives a share the tag that it has.
+pub fn giver_of(share: &[u8]) -> Option<Pair>
     ensures { result ≡ giver_of share.now }
 {
     let body = front(share, layout::SHARE_BODY);
     let given = behind(share, layout::SHARE_BODY);
-    let mut i: u16 = 0;
-    while i < 256 {
-        let controller = (i / 16) as u8;
-        let switch = (i % 16) as u8;
-        if gives(controller, switch, body, given) {
-            return Giver::Pair {
-                controller: controller,
-                switch: switch,
-            };
+    for i in 0..256u16 {
+        let pair = Pair {
+            controller: (i / 16) as u8,
+            switch: (i % 16) as u8,
+        };
+        if gives(pair.controller, pair.switch, body, given) {
+            return Some(pair);
         }
-        i += 1;
     }
-    Giver::Nobody
+    None
 }

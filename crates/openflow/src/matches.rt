@@ -58,8 +58,7 @@ fn mask_of(size: u8) -> u32
     requires { (1 ≤ size) × (size ≤ 32) }
     ensures { result ≡ mask_of size }
 {
-    let block = 1u64 << (32 - size);
-    (0x1_0000_0000 - block) as u32
+    (0x1_0000_0000 - flow::size_of(size)) as u32
 }
 
 // The destinations under a prefix.

@@ -22,8 +22,7 @@ fn match_end(rule: Rule) -> usize
 pub fn length_of(rule: Rule) -> usize
     ensures { result ≡ length_of rule }
 {
-    let action = rule.action;
-    match action {
+    match rule.action {
         Action::Remove => match_end(rule),
         Action::Set(_) => match_end(rule) + 24,
     }
@@ -44,17 +43,13 @@ fn put(part: &mut [u8], number: u32, rule: Rule)
     ensures { part.new ≡ sets part.old 0 (bytes_of number rule) }
 {
     let size = length_of(rule);
-    let action = rule.action;
-    let command = command_of(action);
+    let command = command_of(rule.action);
     put_header(part, size as u16, number);
     put_flow_mod(part, command, rule.length);
     put_match(part, rule.prefix, rule.length);
-    match action {
-        Action::Remove => {}
-        Action::Set(port) => {
-            let end = match_end(rule);
-            put_instruction(&mut part[end..], port);
-        }
+    if let Action::Set(port) = rule.action {
+        let end = match_end(rule);
+        put_instruction(&mut part[end..], port);
     }
 }
 

@@ -1,81 +1,69 @@
 // A band: the rows' names, at which change each switch is when it begins, and a group for the columns.
-use crate::rows::Rows;
-use crate::{columns, names, page, rows};
+use crate::layout::{LINES, Layout, NAMES};
+use crate::names;
+use crate::rows::{End, Rows};
 use answer::limits;
-use prose::{OUT, say, say_number};
+use prose::Out;
 use rehearsal::Deed;
+use std::fmt;
+use std::fmt::Write;
 
-// At which change each switch is.
+// At which change each switch is that has made one.
 #[derive(Clone, Copy)]
 pub(crate) struct Standing {
-    changes: [u32; limits::OF_SWITCHES],
+    changes: [Option<u32>; limits::OF_SWITCHES],
 }
 
-pub(crate) fn at_first() -> Standing {
-    Standing {
-        changes: [0; limits::OF_SWITCHES],
+impl Standing {
+    pub(crate) fn at_first() -> Standing {
+        Standing {
+            changes: [None; limits::OF_SWITCHES],
+        }
+    }
+
+    // After a deed.
+    pub(crate) fn follow(&mut self, deed: &Deed) {
+        if deed.answer == answer::APPLIED
+            && let Some(change) = self.changes.get_mut(deed.switch as usize)
+        {
+            *change = Some(deed.figure);
+        }
+    }
+
+    // Below the name of a switch its change, and along its row the line of being at it.
+    fn say(&self, out: &mut Out, rows: &Rows, right: u64) -> fmt::Result {
+        for (change, switch) in self.changes.iter().zip(0u8..) {
+            if let Some(change) = change
+                && let Some(y) = rows.depth_of(End::Switch(switch))
+            {
+                writeln!(
+                    out,
+                    "<path class='stay' d='M{LINES} {y}H{right}'/>\
+                     <text class='at' x='{NAMES}' y='{y}' dy='16'>at {change}</text>"
+                )?;
+            }
+        }
+        Ok(())
     }
 }
 
-pub(crate) fn after(standing: Standing, deed: Deed) -> Standing {
-    let mut changes = standing.changes;
-    if deed.answer == answer::APPLIED {
-        changes[(deed.switch % limits::SWITCHES) as usize] = deed.figure;
-    }
-    Standing { changes: changes }
-}
-
-// Below a switch's name its change, and along its row the line of being at it.
-fn say_stay(out: &mut [u8; OUT], change: u32, y: u64, right: u64) {
-    say(out, b"<path class='stay' d='M");
-    say_number(out, columns::LINES);
-    say(out, b" ");
-    say_number(out, y);
-    say(out, b"H");
-    say_number(out, right);
-    say(out, b"'/><text class='at' x='");
-    say_number(out, columns::NAMES);
-    say(out, b"' y='");
-    say_number(out, y);
-    say(out, b"' dy='16'>at ");
-    say_number(out, change as u64);
-    say(out, b"</text>\n");
-}
-
-fn say_switch(out: &mut [u8; OUT], rows: Rows, standing: Standing, switch: u8, right: u64) {
-    let changes = standing.changes;
-    let change = changes[(switch % limits::SWITCHES) as usize];
-    if change != 0 && rows::has_switch(rows, switch) {
-        say_stay(out, change, rows::switch_y(rows, switch), right);
-    }
-}
-
-fn say_standing(out: &mut [u8; OUT], rows: Rows, standing: Standing, right: u64) {
-    let mut i: u8 = 0;
-    while i < 16 {
-        say_switch(out, rows, standing, i, right);
-        i += 1;
-    }
-}
-
-// A band that begins with a column, of so many columns.
+// A band that begins with a column.
 pub(crate) fn say_start(
-    out: &mut [u8; OUT],
-    rows: Rows,
-    standing: Standing,
+    out: &mut Out,
+    layout: Layout,
+    rows: &Rows,
+    standing: &Standing,
     column: usize,
-    count: usize,
-) {
-    let right = columns::right_of(column, count);
-    say(out, b"<g class='band' transform='translate(0 ");
-    say_number(out, page::band_top(rows.bottom, column, count));
-    say(out, b")'>\n");
-    names::say_lines(out, rows, right);
-    say_standing(out, rows, standing, right);
-    names::say_names(out, rows);
-    say(out, b"<g>\n");
+) -> fmt::Result {
+    let right = layout.right_of(column);
+    let top = layout.band_top(column);
+    writeln!(out, "<g class='band' transform='translate(0 {top})'>")?;
+    names::say_lines(out, rows, right)?;
+    standing.say(out, rows, right)?;
+    names::say_names(out, rows)?;
+    out.write_str("<g>\n")
 }
 
-pub(crate) fn say_end(out: &mut [u8; OUT]) {
-    say(out, b"</g>\n</g>\n");
+pub(crate) fn say_end(out: &mut Out) -> fmt::Result {
+    out.write_str("</g>\n</g>\n")
 }

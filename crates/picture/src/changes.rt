@@ -1,59 +1,37 @@
 // The changes that were made in a rehearsal.
-ghost use Rattle.std.specs.Prelude.{◌<◌};
-ghost use Rattle.rehearsal.specs.Limits.{most_lines};
+use crate::listed::{Item, LISTED};
+use prose::Out;
+use rehearsal::Deed;
+use std::fmt;
+use std::fmt::Write;
+use story::ChangeWords;
 
-use crate::firsts;
-use crate::firsts::{Firsts, LISTED, say_more, with_column};
-use crate::listed::{say_line, say_line_end};
-use prose::{OUT, say, say_number};
-use rehearsal::{DEEDS, Deed};
-
-fn with_step(changes: Firsts, deed: Deed, column: usize) -> Firsts {
-    if deed.answer == answer::APPLIED {
-        with_column(changes, column)
-    } else {
-        changes
-    }
+fn is_made(deed: &Deed) -> bool {
+    deed.answer == answer::APPLIED
 }
 
-pub(crate) fn changes_in(deeds: [Deed; DEEDS], count: usize) -> Firsts {
-    let mut changes = firsts::none();
-    let mut i: usize = 0;
-    while i < DEEDS {
-        if i < count {
-            let next = with_step(changes, deeds[i], i);
-            changes = next;
-        }
-        i += 1;
-    }
-    changes
+pub(crate) fn count_of(deeds: &[Deed]) -> usize {
+    deeds.iter().filter(|deed| is_made(deed)).count()
 }
 
-fn say_change(out: &mut [u8; OUT], deed: Deed, column: usize, x: u64)
-    requires { column < most_lines }
-{
-    let slot = deed.wish.slot;
-    let rule = slot.rule;
-    say_line(out, x);
-    say(out, b"record ");
-    say_number(out, column as u64 + 1);
-    story::say_name(out, b": switch", deed.switch as u32);
-    say(out, b" at ");
-    story::say_change(out, slot.number, rule);
-    say_line_end(out);
+fn say_change(out: &mut Out, deed: &Deed, ordinal: usize, x: u64) -> fmt::Result {
+    let change = ChangeWords {
+        number: deed.wish.slot.number,
+        rule: deed.wish.slot.rule,
+    };
+    let words = format_args!("record {ordinal}: switch {} at {change}", deed.switch);
+    write!(out, "{}", Item { x, words })
 }
 
-// A line for each, in order.
-pub(crate) fn say_changes(out: &mut [u8; OUT], changes: Firsts, deeds: [Deed; DEEDS], x: u64) {
-    let columns = changes.columns;
-    let count = changes.count;
-    let mut i: usize = 0;
-    while i < LISTED {
-        if i < count {
-            let column = columns[i] % DEEDS;
-            say_change(out, deeds[column], column, x);
-        }
-        i += 1;
+// A line for each of the first ones, in order.
+pub(crate) fn say_changes(out: &mut Out, deeds: &[Deed], x: u64) -> fmt::Result {
+    for (deed, ordinal) in deeds
+        .iter()
+        .zip(1usize..)
+        .filter(|(deed, _)| is_made(deed))
+        .take(LISTED)
+    {
+        say_change(out, deed, ordinal, x)?;
     }
-    say_more(out, count, x);
+    Ok(())
 }

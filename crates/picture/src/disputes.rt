@@ -1,88 +1,62 @@
 // The rules that have letters: what each asks for, and in which record it is first met.
-ghost use Rattle.std.specs.Prelude.{◌<◌};
-ghost use Rattle.rehearsal.specs.Limits.{most_lines};
+use crate::Picture;
+use crate::letters::{FIRST, Label};
+use crate::listed::{Item, LISTED};
+use prose::Out;
+use rehearsal::Deed;
+use std::fmt;
+use std::fmt::Write;
+use story::RuleWords;
 
-use crate::firsts::{Firsts, LISTED, say_more, with_column};
-use crate::letters::{Asked, say_letter};
-use crate::listed::{say_line, say_line_end};
-use crate::{firsts, letters};
-use prose::{OUT, say, say_number};
-use rehearsal::{DEEDS, Deed};
+// A rule with its letter, first met in a record.
+#[derive(Clone, Copy)]
+struct Dispute<'a> {
+    deed: &'a Deed,
+    letter: char,
+    ordinal: usize,
+}
 
-// Further columns with the same letter have no line of their own.
-fn with_step(disputes: Firsts, first: usize, column: usize) -> Firsts {
-    if first == column {
-        with_column(disputes, column)
-    } else {
-        disputes
+impl fmt::Display for Dispute<'_> {
+    // The number and the letter are drawn as they stand on the arrows.
+    fn fmt<W: fmt::Write>(&self, f: &mut fmt::Formatter<W>) -> fmt::Result {
+        let deed = self.deed;
+        let class = if self.letter == FIRST { "one" } else { "other" };
+        let label = Label {
+            number: deed.wish.slot.number,
+            letter: Some(self.letter),
+        };
+        let rule = RuleWords(deed.wish.slot.rule);
+        write!(
+            f,
+            "<tspan class='{class}'>{label}</tspan> at switch {}: {rule}",
+            deed.switch
+        )?;
+        write!(
+            f,
+            ", first in record {}, in the name of controller {}",
+            self.ordinal, deed.controller
+        )
     }
 }
 
-pub(crate) fn disputes_in(asked: Asked, letters: &[u8; DEEDS]) -> Firsts {
-    let changes = asked.changes;
-    let rules = asked.rules;
-    let mut disputes = firsts::none();
-    let mut i: usize = 0;
-    while i < DEEDS {
-        if letters[i] != 0 {
-            let first = letters::first_like(&changes, &rules, i);
-            let next = with_step(disputes, first, i);
-            disputes = next;
-        }
-        i += 1;
+// A line for each of the first ones, in order.
+pub(crate) fn say_disputes(out: &mut Out, picture: &Picture, x: u64) -> fmt::Result {
+    let disputes = picture
+        .deeds
+        .iter()
+        .enumerate()
+        .zip(1usize..)
+        .filter_map(|((column, deed), ordinal)| {
+            let letter = picture.shares.first_letter(column)?;
+            Some(Dispute {
+                deed,
+                letter,
+                ordinal,
+            })
+        })
+        .take(LISTED);
+    for words in disputes {
+        write!(out, "{}", Item { x, words })?;
     }
-    disputes
-}
-
-// The number and the letter, as they stand on the arrows.
-fn say_label(out: &mut [u8; OUT], number: u32, letter: u8) {
-    if letter == 1 {
-        say(out, b"<tspan class='one'>");
-    } else {
-        say(out, b"<tspan class='other'>");
-    }
-    say_number(out, number as u64);
-    say_letter(out, letter);
-    say(out, b"</tspan>");
-}
-
-fn say_rule(out: &mut [u8; OUT], deed: Deed, letter: u8) {
-    let slot = deed.wish.slot;
-    let rule = slot.rule;
-    say_label(out, slot.number, letter);
-    story::say_name(out, b" at switch", deed.switch as u32);
-    say(out, b": ");
-    story::say_rule(out, rule);
-}
-
-fn say_dispute(out: &mut [u8; OUT], deed: Deed, letter: u8, column: usize, x: u64)
-    requires { column < most_lines }
-{
-    say_line(out, x);
-    say_rule(out, deed, letter);
-    say(out, b", first in record ");
-    say_number(out, column as u64 + 1);
-    story::say_name(out, b", in the name of controller", deed.controller as u32);
-    say_line_end(out);
-}
-
-// A line for each, in order.
-pub(crate) fn say_disputes(
-    out: &mut [u8; OUT],
-    disputes: Firsts,
-    letters: &[u8; DEEDS],
-    deeds: [Deed; DEEDS],
-    x: u64,
-) {
-    let columns = disputes.columns;
-    let count = disputes.count;
-    let mut i: usize = 0;
-    while i < LISTED {
-        if i < count {
-            let column = columns[i] % DEEDS;
-            say_dispute(out, deeds[column], letters[column], column, x);
-        }
-        i += 1;
-    }
-    say_more(out, count, x);
+    Ok(())
 }

@@ -3,19 +3,23 @@
 // is safe and ends.
 #![tactic(auto)]
 
-ghost use Rattle.std.specs.Prelude.{◌≡◌, ◌+◌, length};
-ghost use Rattle.rehearsal.specs.Limits.{longest_input};
+ghost use Rattle.std.specs.Prelude.{◌≡◌, ◌+◌, ◌≤◌, length};
+ghost use Rattle.rehearsal.specs.Limits.{longest_input, most_lines};
+
+use crate::layout::Layout;
+use crate::letters::Shares;
+use crate::listed::Lists;
+use crate::rows::Rows;
+use prose::Out;
+use rehearsal::Deed;
+use std::fmt;
 
 const STDIN_FILENO: i32 = 0;
 
-use prose::OUT;
-use rehearsal::Told;
-
 mod bands;
 mod changes;
-mod columns;
 mod disputes;
-mod firsts;
+mod layout;
 mod legend;
 mod letters;
 mod listed;
@@ -33,44 +37,63 @@ fn for_input() -> [u8; rehearsal::INPUT]
     [0u8; rehearsal::INPUT]
 }
 
-fn draw(out: &mut [u8; OUT], told: Told) {
-    let count = columns::shown(told.count);
-    let world = told.world;
-    let n = world.n;
-    let deeds = told.deeds;
-    let rows = rows::rows_of(n, deeds, count);
-    let refusals = refusals::refusals_in(deeds, count);
-    let changes = changes::changes_in(deeds, count);
-    let asked = letters::asked_in(deeds, count);
-    let letters = letters::letters_of(asked);
-    let disputes = disputes::disputes_in(asked, &letters);
-    let lists = page::lists_top(rows.bottom, count);
-    let rules = listed::rules_top(refusals, changes);
-    let height = lists + listed::height_of(rules, disputes);
-    page::say_head(out, columns::width_of(count), height, rows.bottom);
-    page::say_heading(out, n, count);
-    legend::say_legend(
-        out,
-        page::legend_top(rows.bottom, count),
-        disputes.count != 0,
-        rows.outside,
-    );
-    steps::say_steps(out, rows, &letters, deeds, count);
-    listed::say_lists(out, lists, refusals, changes, deeds);
-    listed::say_rules(out, lists + rules, disputes, &letters, deeds);
-    page::say_end(out);
+// A rehearsal as it is drawn: what its records did, the lists at the end, what the shares ask for, and the rows.
+#[derive(Drop)]
+pub(crate) struct Picture<'a> {
+    pub(crate) deeds: &'a [Deed],
+    pub(crate) lists: Lists,
+    pub(crate) shares: Shares,
+    pub(crate) rows: Rows,
 }
 
-fn main() {
-    let mut out = [0u8; OUT];
-    let mut space = for_input();
-    let n = io::read_full(STDIN_FILENO, &mut space);
-    let input = &space[..n];
+// Of deeds among n controllers.
+fn picture_of(n: u8, deeds: &[Deed]) -> Picture<'_>
+    requires { length deeds.now ≤ most_lines }
+{
+    let shares = Shares::of(deeds);
+    Picture {
+        deeds,
+        lists: Lists::of(deeds, &shares),
+        shares,
+        rows: Rows::of(n, deeds),
+    }
+}
+
+fn draw(out: &mut Out, picture: &Picture) -> fmt::Result {
+    let layout = Layout {
+        bottom: picture.rows.bottom(),
+        count: picture.deeds.len(),
+    };
+    let lists_top = layout.lists_top();
+    page::say_head(out, layout, lists_top + picture.lists.height())?;
+    page::say_heading(out, layout, picture.rows.n)?;
+    legend::say_legend(
+        out,
+        layout.legend_top(),
+        picture.lists.disputes != 0,
+        picture.rows.outside,
+    )?;
+    steps::say_steps(out, layout, picture)?;
+    listed::say_lists(out, lists_top, picture)?;
+    page::say_end(out)
+}
+
+// A rehearsal told is large, and stays where it is.
+fn say_page(out: &mut Out, input: &[u8]) -> fmt::Result {
     let told = story::tell(input);
     if told.answer != answer::DONE {
-        page::say_fault(&mut out, told.answer, input);
-    } else {
-        draw(&mut out, told);
+        return page::say_fault(out, told.answer, input);
     }
-    prose::say_end(&mut out);
+    let count = told.count.min(rehearsal::DEEDS);
+    let picture = picture_of(told.world.n, &told.deeds[..count]);
+    draw(out, &picture)
+}
+
+fn main() -> fmt::Result {
+    let mut out = Out::new();
+    let mut space = for_input();
+    let n = io::read_full(STDIN_FILENO, &mut space);
+    let said = say_page(&mut out, &space[..n]);
+    out.end();
+    said
 }

@@ -1,184 +1,231 @@
 // The marks of a step, in the middle of its column. The shapes are the page's; each is placed at a depth.
-use crate::letters::say_letter;
-use prose::{OUT, say, say_number};
+use crate::letters::{FIRST, Label};
+use prose::Out;
 use rehearsal::Deed;
+use std::fmt;
+use std::fmt::Write;
 
 // A shape of the page, at a depth.
-pub(crate) fn say_shape(out: &mut [u8; OUT], name: &[u8], y: u64) {
-    say(out, b"<use href='#");
-    say(out, name);
-    say(out, b"' y='");
-    say_number(out, y);
-    say(out, b"'/>");
+#[derive(Clone, Copy)]
+pub(crate) struct Shape {
+    pub(crate) name: &'static str,
+    pub(crate) y: u64,
 }
 
-// More than five digits or letters may be wider than a column: they are drawn as wide as it has room.
-fn say_narrow(out: &mut [u8; OUT], wide: bool) {
-    if wide {
-        say(out, b" textLength='34' lengthAdjust='spacingAndGlyphs'");
+impl fmt::Display for Shape {
+    fn fmt<W: fmt::Write>(&self, f: &mut fmt::Formatter<W>) -> fmt::Result {
+        write!(f, "<use href='#{}' y='{}'/>", self.name, self.y)
     }
 }
 
-// The head of a text that stands dy below a depth.
-fn say_text(out: &mut [u8; OUT], class: &[u8], y: u64, dy: &[u8]) {
-    say(out, b"<text class='");
-    say(out, class);
-    say(out, b"' y='");
-    say_number(out, y);
-    say(out, b"' dy='");
-    say(out, dy);
-    say(out, b"'");
+// Where a text stands: dy, which may be a fraction, below a depth.
+#[derive(Clone, Copy)]
+pub(crate) struct At {
+    pub(crate) y: u64,
+    pub(crate) dy: &'static str,
 }
 
-// A number that stands dy below a depth.
-pub(crate) fn say_figure(out: &mut [u8; OUT], class: &[u8], number: u64, y: u64, dy: &[u8]) {
-    say_text(out, class, y, dy);
-    say_narrow(out, 99999 < number);
-    say(out, b">");
-    say_number(out, number);
-    say(out, b"</text>");
+// A text of a class. More than five digits or letters may be wider than a column: they are drawn as wide as it has
+// room.
+#[derive(Clone, Copy)]
+pub(crate) struct Text<T> {
+    class: &'static str,
+    at: At,
+    wide: bool,
+    words: T,
 }
 
-// Whether a number is wider than a column together with a letter.
-fn is_wide(number: u32, letter: u8) -> bool {
-    if letter == 0 {
-        99999 < number
-    } else {
-        9999 < number
+impl<T: fmt::Display> fmt::Display for Text<T> {
+    fn fmt<W: fmt::Write>(&self, f: &mut fmt::Formatter<W>) -> fmt::Result {
+        let At { y, dy } = self.at;
+        let narrow = if self.wide {
+            " textLength='34' lengthAdjust='spacingAndGlyphs'"
+        } else {
+            ""
+        };
+        write!(
+            f,
+            "<text class='{}' y='{y}' dy='{dy}'{narrow}>{}</text>",
+            self.class, self.words
+        )
     }
 }
 
-// A rule that differs from the first one stands out.
-fn say_asks_head(out: &mut [u8; OUT], letter: u8, y: u64, dy: &[u8]) {
-    match letter {
-        0 => say_text(out, b"asks", y, dy),
-        1 => say_text(out, b"asks one", y, dy),
-        _ => say_text(out, b"asks other", y, dy),
+pub(crate) fn figure(class: &'static str, number: u64, at: At) -> Text<u64> {
+    Text {
+        class,
+        at,
+        wide: 99999 < number,
+        words: number,
     }
 }
 
-// What a share asks for: the number of its change, with the letter of its rule.
-pub(crate) fn say_asks(out: &mut [u8; OUT], number: u32, letter: u8, y: u64, dy: &[u8]) {
-    say_asks_head(out, letter, y, dy);
-    say_narrow(out, is_wide(number, letter));
-    say(out, b">");
-    say_number(out, number as u64);
-    say_letter(out, letter);
-    say(out, b"</text>");
+// What a share asks for. A rule that differs from the first one stands out.
+pub(crate) fn asks(label: Label, at: At) -> Text<Label> {
+    let (class, widest) = match label.letter {
+        None => ("asks", 99999),
+        Some(FIRST) => ("asks one", 9999),
+        Some(_) => ("asks other", 9999),
+    };
+    Text {
+        class,
+        at,
+        wide: widest < label.number,
+        words: label,
+    }
 }
 
-// The first of so many numbers up to the last.
-fn first_of(given: u32, last: u32) -> u32 {
-    if given <= last { last - given } else { 0 }
+// The switch that a share is for.
+#[derive(Clone, Copy)]
+pub(crate) struct Target(u8);
+
+impl fmt::Display for Target {
+    fn fmt<W: fmt::Write>(&self, f: &mut fmt::Formatter<W>) -> fmt::Result {
+        write!(f, "to {}", self.0)
+    }
+}
+
+// It is told where no arrow leads to the switch.
+pub(crate) fn aim(switch: u8, at: At) -> Text<Target> {
+    Text {
+        class: "aim",
+        at,
+        wide: false,
+        words: Target(switch),
+    }
 }
 
 // Two numbers, one below the other where they are wide, as 1-4.
-fn say_span(out: &mut [u8; OUT], first: u32, last: u32, y: u64) {
+fn say_span(out: &mut Out, first: u32, last: u32, y: u64) -> fmt::Result {
+    let at = At { y, dy: "18" };
     if last < 100 {
-        say_text(out, b"given", y, b"18");
-        say(out, b">");
-        say_number(out, first as u64);
-        say(out, b"-");
-        say_number(out, last as u64);
-        say(out, b"</text>");
-    } else {
-        say_text(out, b"given", y, b"18");
-        say_narrow(out, 9999 < first);
-        say(out, b">");
-        say_number(out, first as u64);
-        say(out, b"-</text>");
-        say_figure(out, b"given", last as u64, y, b"28");
+        let span = Text {
+            class: "given",
+            at,
+            wide: false,
+            words: format_args!("{first}-{last}"),
+        };
+        return write!(out, "{span}");
     }
+    let above = Text {
+        class: "given",
+        at,
+        wide: 9999 < first,
+        words: format_args!("{first}-"),
+    };
+    let below = figure("given", last as u64, At { y, dy: "28" });
+    write!(out, "{above}{below}")
 }
 
-// The numbers that a decision gave.
-pub(crate) fn say_given(out: &mut [u8; OUT], given: u32, last: u32, y: u64) {
+// The numbers that a decision gave: so many, up to the last.
+pub(crate) fn say_given(out: &mut Out, given: u32, last: u32, y: u64) -> fmt::Result {
+    let at = At { y, dy: "18" };
     match given {
         0 => {
-            say_text(out, b"given", y, b"18");
-            say(out, b">none</text>");
+            let none = Text {
+                class: "given",
+                at,
+                wide: false,
+                words: "none",
+            };
+            write!(out, "{none}")
         }
-        1 => say_figure(out, b"given", last as u64, y, b"18"),
-        _ => say_span(out, first_of(given - 1, last), last, y),
+        1 => write!(out, "{}", figure("given", last as u64, at)),
+        _ => say_span(out, last.saturating_sub(given - 1), last, y),
     }
-}
-
-// The switch that a share is for, where no arrow leads to it.
-pub(crate) fn say_aim(out: &mut [u8; OUT], switch: u8, y: u64, dy: &[u8]) {
-    say_text(out, b"aim", y, dy);
-    say(out, b">to ");
-    say_number(out, switch as u64);
-    say(out, b"</text>");
-}
-
-// How many controllers agree, and how many are needed.
-fn say_agreeing(out: &mut [u8; OUT], agreeing: u32, quorum: u32, y: u64, dy: &[u8]) {
-    say_text(out, b"plain", y, dy);
-    say(out, b">");
-    say_number(out, agreeing as u64);
-    say(out, b"/");
-    say_number(out, quorum as u64);
-    say(out, b"</text>");
 }
 
 // A cross with the number of the question that refused.
-fn say_cross(out: &mut [u8; OUT], answer: u8, y: u64, dy: &[u8]) {
-    say_shape(out, b"cross", y);
-    say_figure(out, b"bad", answer as u64, y, dy);
+#[derive(Clone, Copy)]
+struct Cross {
+    answer: u8,
+    at: At,
+}
+
+impl fmt::Display for Cross {
+    fn fmt<W: fmt::Write>(&self, f: &mut fmt::Formatter<W>) -> fmt::Result {
+        let cross = Shape {
+            name: "cross",
+            y: self.at.y,
+        };
+        write!(f, "{cross}{}", figure("bad", self.answer as u64, self.at))
+    }
 }
 
 // A refusal on a row.
-pub(crate) fn say_refused(out: &mut [u8; OUT], answer: u8, y: u64) {
-    say_shape(out, b"clear", y);
-    say_cross(out, answer, y, b"18");
+pub(crate) fn say_refused(out: &mut Out, answer: u8, y: u64) -> fmt::Result {
+    let clear = Shape { name: "clear", y };
+    let cross = Cross {
+        answer,
+        at: At { y, dy: "18" },
+    };
+    write!(out, "{clear}{cross}")
 }
 
 // A refusal over the shape of what was tried.
-pub(crate) fn say_failed(out: &mut [u8; OUT], shape: &[u8], answer: u8, y: u64) {
-    say(out, b"<g class='tried'>");
-    say_shape(out, shape, y);
-    say(out, b"</g>");
-    say_cross(out, answer, y, b"21");
+pub(crate) fn say_failed(out: &mut Out, name: &'static str, answer: u8, y: u64) -> fmt::Result {
+    let shape = Shape { name, y };
+    let cross = Cross {
+        answer,
+        at: At { y, dy: "21" },
+    };
+    write!(out, "<g class='tried'>{shape}</g>{cross}")
 }
 
 // An arrow, with a dot where it begins and one of the shapes as its head.
-pub(crate) fn say_arrow(out: &mut [u8; OUT], class: &[u8], from: u64, to: u64, head: &[u8]) {
-    say(out, b"<g class='");
-    say(out, class);
-    say(out, b"'>");
-    say_shape(out, b"tail", from);
-    say(out, b"<path d='M0 ");
-    say_number(out, from);
-    say(out, b"V");
-    say_number(out, to);
-    say(out, b"'/>");
-    say_shape(out, head, to);
-    say(out, b"</g>");
+#[derive(Clone, Copy)]
+pub(crate) struct Arrow {
+    pub(crate) class: &'static str,
+    pub(crate) from: u64,
+    pub(crate) to: u64,
+    pub(crate) head: &'static str,
+}
+
+impl fmt::Display for Arrow {
+    fn fmt<W: fmt::Write>(&self, f: &mut fmt::Formatter<W>) -> fmt::Result {
+        let Arrow {
+            class,
+            from,
+            to,
+            head,
+        } = *self;
+        let tail = Shape {
+            name: "tail",
+            y: from,
+        };
+        let head = Shape { name: head, y: to };
+        write!(
+            f,
+            "<g class='{class}'>{tail}<path d='M0 {from}V{to}'/>{head}</g>"
+        )
+    }
 }
 
 // What came of a message among n controllers, at the end of its arrow; numbers stand on the side that this leaves free.
-pub(crate) fn say_outcome(out: &mut [u8; OUT], n: u8, deed: Deed, y: u64, free: &[u8]) {
-    let answer = deed.answer;
-    say_shape(out, b"clear", y);
-    match answer {
+pub(crate) fn say_outcome(out: &mut Out, n: u8, deed: &Deed, at: At) -> fmt::Result {
+    let y = at.y;
+    write!(out, "{}", Shape { name: "clear", y })?;
+    match deed.answer {
         answer::DONE => {
-            say_shape(out, b"held", y);
-            say_agreeing(out, deed.agreeing, switch::quorum(n), y, free);
+            let held = Shape { name: "held", y };
+            let agreeing = Text {
+                class: "plain",
+                at,
+                wide: false,
+                words: format_args!("{}/{}", deed.agreeing, switch::quorum(n)),
+            };
+            write!(out, "{held}{agreeing}")
         }
         answer::APPLIED => {
-            say_shape(out, b"applied", y);
-            say_figure(out, b"good", deed.figure as u64, y, free);
+            let applied = Shape { name: "applied", y };
+            write!(out, "{applied}{}", figure("good", deed.figure as u64, at))
         }
-        answer::REPEAT => say_shape(out, b"repeat", y),
-        _ => say_cross(out, answer, y, free),
+        answer::REPEAT => write!(out, "{}", Shape { name: "repeat", y }),
+        answer => write!(out, "{}", Cross { answer, at }),
     }
 }
 
 // The line of a switch that is at a change from here on.
-pub(crate) fn say_stay(out: &mut [u8; OUT], y: u64, length: u64) {
-    say(out, b"<path class='stay' d='M0 ");
-    say_number(out, y);
-    say(out, b"h");
-    say_number(out, length);
-    say(out, b"'/>");
+pub(crate) fn say_stay(out: &mut Out, y: u64, length: u64) -> fmt::Result {
+    write!(out, "<path class='stay' d='M0 {y}h{length}'/>")
 }

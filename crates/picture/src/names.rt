@@ -1,96 +1,62 @@
 // The lines through the rows, and the names at their left.
-use crate::rows::Rows;
-use crate::{columns, rows};
-use prose::{OUT, say, say_number};
+use crate::layout::{LINES, NAMES};
+use crate::rows;
+use crate::rows::{End, Rows};
+use answer::limits;
+use prose::Out;
+use std::fmt;
+use std::fmt::Write;
 
-fn say_line(out: &mut [u8; OUT], y: u64, right: u64) {
-    say(out, b"<path class='row' d='M");
-    say_number(out, columns::LINES);
-    say(out, b" ");
-    say_number(out, y);
-    say(out, b"H");
-    say_number(out, right);
-    say(out, b"'/>\n");
-}
-
-fn say_controller_line(out: &mut [u8; OUT], rows: Rows, controller: u8, right: u64) {
-    if controller < rows.n {
-        say_line(out, rows::controller_y(rows, controller), right);
+fn say_line(out: &mut Out, rows: &Rows, end: End, right: u64) -> fmt::Result {
+    if let Some(y) = rows.depth_of(end) {
+        writeln!(out, "<path class='row' d='M{LINES} {y}H{right}'/>")?;
     }
+    Ok(())
 }
 
-fn say_switch_line(out: &mut [u8; OUT], rows: Rows, switch: u8, right: u64) {
-    if rows::has_switch(rows, switch) {
-        say_line(out, rows::switch_y(rows, switch), right);
+// A thin line through each row. There are no more controllers than switches.
+pub(crate) fn say_lines(out: &mut Out, rows: &Rows, right: u64) -> fmt::Result {
+    for id in 0..limits::SWITCHES {
+        say_line(out, rows, End::Controller(id), right)?;
+        say_line(out, rows, End::Switch(id), right)?;
     }
+    Ok(())
 }
 
-// A thin line through each row.
-pub(crate) fn say_lines(out: &mut [u8; OUT], rows: Rows, right: u64) {
-    let mut i: u8 = 0;
-    while i < 16 {
-        say_controller_line(out, rows, i, right);
-        say_switch_line(out, rows, i, right);
-        i += 1;
-    }
-}
-
-fn say_place(out: &mut [u8; OUT], class: &[u8], y: u64) {
-    say(out, b"<text class='");
-    say(out, class);
-    say(out, b"' x='");
-    say_number(out, columns::NAMES);
-    say(out, b"' y='");
-    say_number(out, y);
-    say(out, b"' dy='4'>");
-}
-
-fn say_name(out: &mut [u8; OUT], name: &[u8], number: u8, y: u64) {
-    say_place(out, b"name", y);
-    story::say_name(out, name, number as u32);
-    say(out, b"</text>\n");
-}
-
-fn say_label(out: &mut [u8; OUT], label: &[u8], y: u64) {
-    say_place(out, b"label", y);
-    say(out, label);
-    say(out, b"</text>\n");
-}
-
-fn say_controller(out: &mut [u8; OUT], rows: Rows, controller: u8) {
-    if controller < rows.n {
-        say_name(
+fn say_name(out: &mut Out, rows: &Rows, end: End) -> fmt::Result {
+    if let Some(y) = rows.depth_of(end) {
+        writeln!(
             out,
-            b"controller",
-            controller,
-            rows::controller_y(rows, controller),
-        );
+            "<text class='name' x='{NAMES}' y='{y}' dy='4'>{end}</text>"
+        )?;
     }
+    Ok(())
 }
 
-fn say_switch(out: &mut [u8; OUT], rows: Rows, switch: u8) {
-    if rows::has_switch(rows, switch) {
-        say_name(out, b"switch", switch, rows::switch_y(rows, switch));
-    }
+fn say_label(out: &mut Out, label: &'static str, y: u64) -> fmt::Result {
+    writeln!(
+        out,
+        "<text class='label' x='{NAMES}' y='{y}' dy='4'>{label}</text>"
+    )
 }
 
 // What the numbers above and below the rows are.
-fn say_labels(out: &mut [u8; OUT], rows: Rows) {
-    say_label(out, b"record", rows::ORDINALS);
-    say_label(out, b"answer", rows.answers);
-    say_label(out, b"figure", rows.figures);
+fn say_labels(out: &mut Out, rows: &Rows) -> fmt::Result {
+    say_label(out, "record", rows::ORDINALS)?;
+    say_label(out, "answer", rows.answers())?;
+    say_label(out, "figure", rows.figures())?;
     if rows.outside {
-        say_label(out, b"no row", rows::OUTSIDE);
+        say_label(out, "no row", rows::OUTSIDE)?;
     }
+    Ok(())
 }
 
 // The names and labels before the columns.
-pub(crate) fn say_names(out: &mut [u8; OUT], rows: Rows) {
-    say_labels(out, rows);
-    let mut i: u8 = 0;
-    while i < 16 {
-        say_controller(out, rows, i);
-        say_switch(out, rows, i);
-        i += 1;
+pub(crate) fn say_names(out: &mut Out, rows: &Rows) -> fmt::Result {
+    say_labels(out, rows)?;
+    for id in 0..limits::SWITCHES {
+        say_name(out, rows, End::Controller(id))?;
+        say_name(out, rows, End::Switch(id))?;
     }
+    Ok(())
 }

@@ -1,11 +1,11 @@
 // The rows of each band: the controllers, and below them the switches that some record reached. Above them is a line
 // for what belongs to no row, if there is such a deed. Depths are those below the top of the band.
-ghost use Rattle.std.specs.Prelude.{◌+◌, ◌≤◌};
+ghost use Rattle.std.specs.Prelude.{◌≤◌};
 
-use crate::reached;
 use crate::reached::Reached;
 use answer::limits;
-use rehearsal::{DEEDS, Deed};
+use rehearsal::Deed;
+use std::fmt;
 
 // The records' ordinals, and what belongs to no row.
 pub(crate) const ORDINALS: u64 = 14;
@@ -14,106 +14,80 @@ pub(crate) const OUTSIDE: u64 = 46;
 
 const HEIGHT: u64 = 36;
 
-// How many controllers there are; whether a step belongs to no row; how deep each switch's row lies, 0 for a switch
-// without one; the answers and figures below the rows, and where the band ends.
+// An end, which may have a row.
+#[derive(Clone, Copy)]
+pub(crate) enum End {
+    Controller(u8),
+    Switch(u8),
+}
+
+impl fmt::Display for End {
+    fn fmt<W: fmt::Write>(&self, f: &mut fmt::Formatter<W>) -> fmt::Result {
+        match self {
+            End::Controller(controller) => write!(f, "controller {controller}"),
+            End::Switch(switch) => write!(f, "switch {switch}"),
+        }
+    }
+}
+
+// How many controllers there are, whether a step belongs to no row, and which switches have one.
 #[derive(Clone, Copy)]
 pub(crate) struct Rows {
     pub(crate) n: u8,
     pub(crate) outside: bool,
-    pub(crate) switches: [u64; limits::OF_SWITCHES],
-    pub(crate) answers: u64,
-    pub(crate) figures: u64,
-    pub(crate) bottom: u64,
+    reached: Reached,
 }
 
-// The first row.
-fn first(outside: bool) -> u64
-    ensures { result ≤ 86 }
-{
-    if outside { OUTSIDE + 40 } else { OUTSIDE }
-}
-
-// Row k, counted from the first.
-fn row(outside: bool, k: u8) -> u64
-    requires { k ≤ 16 }
-    ensures { result ≤ 662 }
-{
-    first(outside) + HEIGHT * (k as u64)
-}
-
-fn at_most_16(n: u8) -> u8
-    ensures { result ≤ 16 }
-{
-    if n <= limits::CONTROLLERS {
-        n
-    } else {
-        limits::CONTROLLERS
+impl Rows {
+    pub(crate) fn of(n: u8, deeds: &[Deed]) -> Rows {
+        let reached = Reached::by(deeds);
+        Rows {
+            n,
+            outside: deeds.iter().any(|deed| reached.is_outside(n, deed)),
+            reached,
+        }
     }
-}
 
-fn depth_if(there: bool, y: u64) -> u64 {
-    if there { y } else { 0 }
-}
-
-// The next row after one that may be there.
-fn below(there: bool, y: u64) -> u64
-    requires { y ≤ 2000 }
-    ensures { result ≤ y + 36 }
-{
-    if there { y + HEIGHT } else { y }
-}
-
-// The switches begin a little below the controllers.
-fn rows_with(n: u8, outside: bool, reached: Reached) -> Rows {
-    let there = reached.switches;
-    let mut switches = [0u64; limits::OF_SWITCHES];
-    let mut y = row(outside, at_most_16(n)) + 20;
-    let mut i: usize = 0;
-    while i < limits::OF_SWITCHES {
-        switches[i] = depth_if(there[i], y);
-        let next = below(there[i], y);
-        y = next;
-        i += 1;
+    // Row k, counted from the first.
+    fn row(&self, k: u8) -> u64
+        ensures { result ≤ 9266 }
+    {
+        let first = if self.outside { OUTSIDE + 40 } else { OUTSIDE };
+        first + HEIGHT * k as u64
     }
-    Rows {
-        n: n,
-        outside: outside,
-        switches: switches,
-        answers: y,
-        figures: y + 16,
-        bottom: y + 30,
+
+    // The row of a switch, or where it would lie. The switches begin a little below the controllers.
+    fn switch_row(&self, switch: u8) -> u64
+        ensures { result ≤ 9862 }
+    {
+        self.row(self.n) + 20 + HEIGHT * self.reached.below(switch)
     }
-}
 
-pub(crate) fn rows_of(n: u8, deeds: [Deed; DEEDS], count: usize) -> Rows {
-    let reached = reached::reached_by(deeds, count);
-    let outside = reached::any_outside(n, reached, deeds, count);
-    rows_with(n, outside, reached)
-}
-
-// How deep an end's row lies, or what has none.
-pub(crate) fn controller_y(rows: Rows, controller: u8) -> u64 {
-    if controller < rows.n {
-        row(rows.outside, at_most_16(controller))
-    } else {
-        OUTSIDE
+    // How deep an end's row lies, if it has one.
+    pub(crate) fn depth_of(&self, end: End) -> Option<u64> {
+        match end {
+            End::Controller(controller) => { (controller < self.n).then_some(self.row(controller)) }
+            End::Switch(switch) => self.reached.has(switch).then_some(self.switch_row(switch)),
+        }
     }
-}
 
-pub(crate) fn has_switch(rows: Rows, switch: u8) -> bool {
-    let switches = rows.switches;
-    if switch < limits::SWITCHES {
-        switches[switch as usize] != 0
-    } else {
-        false
+    // How deep an end's row lies, or what has none.
+    pub(crate) fn y_of(&self, end: End) -> u64 {
+        self.depth_of(end).unwrap_or(OUTSIDE)
     }
-}
 
-pub(crate) fn switch_y(rows: Rows, switch: u8) -> u64 {
-    let switches = rows.switches;
-    if has_switch(rows, switch) {
-        switches[(switch % limits::SWITCHES) as usize]
-    } else {
-        OUTSIDE
+    // The answers and the figures below the rows, and where the band ends.
+    pub(crate) fn answers(&self) -> u64
+        ensures { result ≤ 9862 }
+    {
+        self.switch_row(limits::SWITCHES)
+    }
+
+    pub(crate) fn figures(&self) -> u64 {
+        self.answers() + 16
+    }
+
+    pub(crate) fn bottom(&self) -> u64 {
+        self.answers() + 30
     }
 }

@@ -5,10 +5,11 @@ use mathlib.Core.Bool.{true}
 use mathlib.Core.List.{List, [], ◌∷◌}
 use Prim.Native.Nat.{ℕ, zero, suc, ◌+◌, ◌*◌, ◌≤◌, ◌<◌}
 use native.Mathlib.Omega.{arith}
-use borrow.Author.Tests.{le-leb, lt-leb}
-use lib.Dec.{leb, eqb}
+use borrow.Author.Tests.{lt-ltb, le-ltb, le-leb, lt-leb}
+use lib.Dec.{ltb, leb, eqb}
 use lib.ListN.{length, take, length-append, length-take}
 use lib.Seq.{get_or-take, take-nil}
+use Rattle.std.specs.Prelude.{Result, Ok, Err}
 use Rattle.answer.proofs.Asked.{reply-keeps, reply-same}
 use Rattle.answer.proofs.Bools.{by_bool, by_le}
 use Rattle.lists.specs.Bytes.{byte_at, field}
@@ -20,20 +21,20 @@ use Rattle.playbook.specs.Reading.{refusal, finished, read_from, read_first}
 use Rattle.playbook.specs.Storing.{book_ok}
 use Rattle.playbook.specs.Asking.{record_of, record_at, plan_questions, change_questions, follow}
 use Rattle.playbook.specs.declared.Outcome.{Outcome}
-use Rattle.playbook.specs.declared.Record.{Record}
-use Rattle.playbook.specs.declared.Record.TheVariants.{Opens, Lists, Ends, Refused}
+use Rattle.playbook.specs.declared.records.Record.{Record}
+use Rattle.playbook.specs.declared.records.Record.TheVariants.{Opens, Lists, Ends}
 use Rattle.playbook.proofs.Apart.{read_step}
 use Rattle.playbook.proofs.Kept.{book_parts, plan_kept, change-kept, none_ok}
 use Rattle.playbook.proofs.Sound.{count-length}
 
 -- what holds of every refusal, of the end and of whatever is read on, holds of what a record does
-follow_any : (P : Outcome → Type 0) (r : Record) (b : Book) (end : Outcome) (on : ℕ → Book → Outcome)
+follow_any : (P : Outcome → Type 0) (r : Result Record ℕ) (b : Book) (end : Outcome) (on : ℕ → Book → Outcome)
     → ((k : ℕ) → P (refusal k)) → P end → ((skip : ℕ) (next : Book) → P (on skip next)) → P (follow r b end on)
-follow_any P (Refused k) b end on refuses ends goes_on = refuses k
-follow_any P Ends b end on refuses ends goes_on = ends
-follow_any P (Opens s c) b end on refuses ends goes_on =
+follow_any P (Err k) b end on refuses ends goes_on = refuses k
+follow_any P (Ok Ends) b end on refuses ends goes_on = ends
+follow_any P (Ok (Opens s c)) b end on refuses ends goes_on =
     reply-keeps P (plan_questions b (s, c)) refusal _ refuses (λ pass. goes_on _ _)
-follow_any P (Lists c) b end on refuses ends goes_on =
+follow_any P (Ok (Lists c)) b end on refuses ends goes_on =
     reply-keeps P (change_questions b c) refusal _ refuses (λ pass. goes_on _ _)
 
 used_from : (skip : ℕ) (s : List ℕ) (used : ℕ) (b : Book) → (read_from skip s used b).used ≤ used + length s
@@ -63,6 +64,13 @@ module _ (s : List ℕ) (m : ℕ) (enough : change_size ≤ m) where
       (λ l. le-leb size (length (take m s)) (omega arith) ∙ sym (le-leb size (length s) l))
       (λ l. lt-leb size (length (take m s)) (omega arith) ∙ sym (lt-leb size (length s) l))
 
+  left_enough : ltb 0 (length (take m s)) ≡ ltb 0 (length s)
+  left_enough =
+      let cut = length-take m s in
+      by_le 1 (length s)
+      (λ l. lt-ltb 0 (length (take m s)) (omega arith) ∙ sym (lt-ltb 0 (length s) l))
+      (λ l. le-ltb 0 (length (take m s)) (omega arith) ∙ sym (le-ltb 0 (length s) (omega arith)))
+
   same_byte : (i : ℕ) → i < change_size → byte_at (take m s) i ≡ byte_at s i
   same_byte i h = get_or-take m s i 0 (omega arith)
 
@@ -84,6 +92,7 @@ module _ (s : List ℕ) (m : ℕ) (enough : change_size ≤ m) where
   unfolding record_at
   record_front =
       rw (
+        left_enough,
         same_byte 0 (omega arith),
         long_enough (size_of (byte_at s 0)) (size_least (byte_at s 0)),
         same_record (byte_at s 0),
@@ -93,15 +102,15 @@ module _ (s : List ℕ) (m : ℕ) (enough : change_size ≤ m) where
 abbrev Behind : Book → ℕ → Type 0
 Behind b used = (book_ok b ≡ true) × (used ≤ plan_size * length b.plans + change_size * length b.changes)
 
-follow-same : (r : Record) (b : Book) (used : ℕ) (end : Outcome) (on on' : ℕ → Book → Outcome) → Behind b used
+follow-same : (r : Result Record ℕ) (b : Book) (used : ℕ) (end : Outcome) (on on' : ℕ → Book → Outcome) → Behind b used
     → ((skip : ℕ) (next : Book) → Behind next (used + suc skip) → on skip next ≡ on' skip next)
     → follow r b end on ≡ follow r b end on'
-follow-same (Refused k) b used end on on' h same = refl
-follow-same Ends b used end on on' h same = refl
-follow-same (Opens s c) b used end on on' h same =
+follow-same (Err k) b used end on on' h same = refl
+follow-same (Ok Ends) b used end on on' h same = refl
+follow-same (Ok (Opens s c)) b used end on on' h same =
     reply-same (plan_questions b (s, c)) refusal _ _
     (λ pass. same _ _ (plan_kept b (s, c) h.0 pass, rw length-append (omega (arith, h.1))))
-follow-same (Lists c) b used end on on' h same =
+follow-same (Ok (Lists c)) b used end on on' h same =
     reply-same (change_questions b c) refusal _ _
     (λ pass. same _ _ (change-kept b c h.0 pass, rw (count-length, length-append) (omega (arith, h.1))))
 
@@ -121,7 +130,7 @@ front-from zero (x ∷ xs) used b (suc m) h enough =
     let end = finished (used + 1) b in
     let front = record_front (x ∷ xs) (suc m) (omega (arith, h.1, l.plans, l.changes)) in
     read_step x (take m xs) used b
-    ∙ ap (λ (r : Record). follow r b end (λ skip next. read_from skip (take m xs) (used + 1) next)) front
+    ∙ ap (λ (r : Result Record ℕ). follow r b end (λ skip next. read_from skip (take m xs) (used + 1) next)) front
     ∙ follow-same (record_at (x ∷ xs)) b used end _ _ (rw z at h)
     (λ skip next k. let e : used + suc skip ≡ used + 1 + skip = omega arith in
     front-from skip xs (used + 1) next m (rw e at k) (omega arith))

@@ -1,101 +1,111 @@
--- The keys of a switch as the code counts them: each as one number, gathered once, from the last change to the first;
--- and how many changes each switch has. Assumes nothing.
+-- The different keys of a switch as the code gathers them, in the order in which they come; and how many changes each
+-- switch has. Assumes nothing.
 use mathlib.Core.Path.{◌≡◌, refl, sym, ap, ◌∙◌}
 use mathlib.Core.List.{List, [], ◌∷◌, ◌++◌}
-use mathlib.Core.Bool.{true, false, ◌&&◌}
-use Prim.Native.Nat.{ℕ, zero, suc, ◌+◌, ◌-◌, ◌≤◌, ◌<◌}
+use mathlib.Core.Bool.{true, false}
+use Prim.Native.Nat.{ℕ, ◌+◌, ◌≤◌, ◌<◌}
 use native.Mathlib.Numerals.{add-one}
 use native.Mathlib.Omega.{arith}
 use lib.Dec.{leb, eqb}
-use lib.ListN.{length, take, drop, set, get_or, replicate, length-set, length-append, get_or-replicate}
-use lib.Seq.{take-suc-set, get_or-set_same, get_or-set_other}
-use borrow.Author.Tests.{eqb-true, eq-eqb, leb-true, le-leb, lt-leb}
+use lib.ListN.{length, take, drop, set, get_or, replicate, length-set, length-append, get_or-replicate, take-append-drop}
+use lib.Seq.{get_or-set_same, get_or-set_other}
+use borrow.Author.Tests.{le-leb, lt-leb}
+use Rattle.std.proofs.lemmas.Bool.{leb-false}
 use Rattle.answer.specs.Limits.{switch_count}
-use Rattle.answer.proofs.Bools.{by_bool, by_eq, and_join, same_test}
-use Rattle.lists.specs.Arrays.{every}
+use Rattle.answer.proofs.Bools.{by_bool, by_eq, tf}
 use Rattle.lists.specs.Kinds.{among, kinds}
-use Rattle.lists.proofs.Members.{among_snoc, kinds-known, kinds_new, kinds_more, kinds-few}
-use Rattle.lists.proofs.Tails.{every_at}
+use Rattle.lists.proofs.Members.{among_snoc, kinds-known, kinds_new, kinds-few}
+use Rattle.lists.proofs.Pigeonhole.{kinds-within}
 use Rattle.flow.specs.Rules.{Key, rule_key, same_key}
-use Rattle.flow.proofs.Order.{key_sound}
+use Rattle.flow.proofs.Order.{key_sound, key_mine}
 use Rattle.playbook.specs.Limits.{max_keys}
 use Rattle.playbook.specs.Books.{keys_on, kinds_on}
 use Rattle.playbook.specs.Storing.{few_keys_below}
-use Rattle.playbook.specs.Gathering.{key_number, Counted}
+use Rattle.playbook.specs.Gathering.{with_key, Gathered, Collected}
 use Rattle.playbook.specs.declared.Change.{Change}
-use Rattle.playbook.proofs.Few.{keys_on_lem, keys_off, few_all}
+use Rattle.playbook.proofs.Few.{keys_on_lem, keys_off, few_below, kinds_grow}
 
--- a key's number tells it from the others, since a length is a byte
-number_same : (j k : Key) → j.1 < 256 → k.1 < 256 → eqb (key_number j) (key_number k) ≡ same_key j k
-number_same j k g h =
-    same_test _ _
-    (λ e. let n = eqb-true (key_number j) (key_number k) e in
-    and_join (eqb j.0 k.0) _ (eq-eqb j.0 k.0 (omega arith)) (eq-eqb j.1 k.1 (omega arith)))
-    (λ e. eq-eqb (key_number j) (key_number k) (ap key_number (key_sound j k e)))
+-- a key behind others counts as in front of them
+kinds-turned : (k : Key) (ks : List Key) → kinds same_key (ks ++ k ∷ []) ≡ kinds same_key (k ∷ ks)
+unfolding among
+kinds-turned k ks =
+    let here = kinds-within same_key key_sound key_mine (ks ++ k ∷ []) (k ∷ ks)
+    (λ j e. sym (among_snoc same_key j k ks) ∙ e) in
+    let there = kinds-within same_key key_sound key_mine (k ∷ ks) (ks ++ k ∷ [])
+    (λ j e. among_snoc same_key j k ks ∙ e) in
+    omega arith
 
--- the numbers gathered: as many as there are different keys, and of just these keys
-pub record Gathered (count : ℕ) (seen : List ℕ) (ks : List Key) : Type 0 where
-  pub room : count ≤ max_keys
-  pub counted : count ≡ kinds same_key ks
-  pub members : (k : Key) → k.1 < 256 → among eqb (key_number k) (take count seen) ≡ among same_key k ks
-
-pub gathered_none : (seen : List ℕ) (ks : List Key) → ks ≡ [] → Gathered 0 seen ks
+pub gathered_none : Gathered [] []
 unfolding among kinds
-gathered_none seen ks e = record { room = omega arith; counted = rw e; members = λ k h. rw e }
+gathered_none = record { counted = refl; members = λ k. refl }
 
-module _ {count : ℕ} {seen : List ℕ} {ks : List Key} (g : Gathered count seen ks) where
-  pub gathered_fits : leb (kinds same_key ks) max_keys ≡ true
-  gathered_fits = le-leb (kinds same_key ks) max_keys (omega arith)
-
-  -- a key that was gathered
-  pub gathered_known : (k : Key) → among same_key k ks ≡ true → Gathered count seen (k ∷ ks)
-  unfolding among
-  gathered_known k e = record {
-    room = g.room;
-    counted = g.counted ∙ sym (kinds-known same_key k ks e);
-    members = λ j h. by_bool (same_key k j)
-        (λ s. rw s (g.members j h ∙ ap (λ (i : Key). among same_key i ks) (sym (key_sound k j s)) ∙ e))
-        (λ s. rw s (g.members j h));
+-- a key that was gathered, and one that was not
+module _ {ms ks : List Key} (g : Gathered ms ks) (k : Key) where
+  gathered_known : among same_key k ms ≡ true → Gathered ms (ks ++ k ∷ [])
+  gathered_known e = record {
+    counted = g.counted ∙ sym (kinds-known same_key k ks (sym (g.members k) ∙ e)) ∙ sym (kinds-turned k ks);
+    members = λ j. by_bool (same_key k j)
+        (λ s. ap (λ (i : Key). among same_key i ms) (sym (key_sound k j s)) ∙ e
+        ∙ sym (among_snoc same_key j k ks ∙ rw s))
+        (λ s. g.members j ∙ sym (among_snoc same_key j k ks ∙ rw s));
   }
 
-  -- a key that was not, for which there is no room, and for which there is
-  kinds-next : (k : Key) → among same_key k ks ≡ false → kinds same_key (k ∷ ks) ≡ suc count
-  kinds-next k e = kinds_new same_key k ks e ∙ ap suc (sym g.counted)
+  gathered_new : among same_key k ms ≡ false → Gathered (ms ++ k ∷ []) (ks ++ k ∷ [])
+  gathered_new e = record {
+    counted =
+        let more = length-append ms (k ∷ []) in
+        let next = kinds-turned k ks ∙ kinds_new same_key k ks (sym (g.members k) ∙ e) in
+        omega (arith, g.counted);
+    members = λ j. rw (among_snoc same_key j k ms, among_snoc same_key j k ks, g.members j);
+  }
 
-  pub gathered_full : (k : Key) → among same_key k ks ≡ false → max_keys ≤ count → max_keys < kinds same_key (k ∷ ks)
-  gathered_full k e full = omega (arith, kinds-next k e)
+  pub gathered_more : Gathered (with_key k ms) (ks ++ k ∷ [])
+  gathered_more =
+      by_bool (among same_key k ms) (λ e. rw e (gathered_known e)) (λ e. rw e (gathered_new e))
 
-  module _ (k : Key) (x : ℕ) (number : x ≡ key_number k) (byte : k.1 < 256) where
-    pub gathered_looked : among eqb x (take count seen) ≡ among same_key k ks
-    gathered_looked = rw number (g.members k byte)
+-- a change more, on the switch whose keys are gathered, and on another; and whether its switch has too many keys
+pub own_more : (ms : List Key) (s : ℕ) (cs : List Change) (c : Change) → Gathered ms (keys_on s cs) → c.switch ≡ s
+    → Gathered (with_key (rule_key c.rule) ms) (keys_on s (cs ++ c ∷ []))
+own_more ms s cs c g e = rw (keys_on_lem s cs c e) (gathered_more g (rule_key c.rule))
 
-    gathered_after : (j : Key) → j.1 < 256
-        → among eqb (key_number j) (take count seen ++ x ∷ []) ≡ among same_key j (k ∷ ks)
-    unfolding among
-    gathered_after j h =
-        among_snoc eqb (key_number j) x (take count seen) ∙ rw (number, number_same k j byte h, g.members j h)
+pub other_more : (ms : List Key) (s : ℕ) (cs : List Change) (c : Change) → Gathered ms (keys_on s cs)
+    → (c.switch ≡ s → ⊥) → Gathered ms (keys_on s (cs ++ c ∷ []))
+other_more ms s cs c g ne = rw (keys_off s cs c ne) g
 
-    pub gathered_new : among same_key k ks ≡ false → count < max_keys → count < length seen
-        → Gathered (count + 1) (set seen count x) (k ∷ ks)
-    gathered_new e free long = record {
-      room = omega arith;
-      counted = rw add-one (sym (kinds-next k e));
-      members = λ j h. rw (add-one, take-suc-set seen count x long) (gathered_after j h);
-    }
+pub gathered_fits : (ms : List Key) (s : ℕ) (cs : List Change) → Gathered ms (keys_on s cs)
+    → leb (length ms) max_keys ≡ leb (kinds_on s cs) max_keys
+gathered_fits ms s cs g = ap (λ (n : ℕ). leb n max_keys) g.counted
 
-kinds-later : (s : ℕ) (cs : List Change) (i : ℕ) → kinds_on s (drop i cs) ≤ kinds_on s cs
-unfolding keys_on
-kinds-later s cs zero = omega arith
-kinds-later s [] (suc i) = omega arith
-kinds-later s (c ∷ cs) (suc i) =
-    let h = kinds-later s cs i in
-    by_bool (eqb c.switch s) (λ e. rw e (omega (arith, kinds_more same_key (rule_key c.rule) (keys_on s cs))))
-    (λ e. rw e h)
-
--- too many keys of later changes are too many keys
-pub kinds-over : (s : ℕ) (cs : List Change) (i : ℕ) → max_keys < kinds_on s (drop i cs)
+-- too many keys of the first changes are too many keys
+pub kinds-over : (s : ℕ) (cs : List Change) (i : ℕ) → leb (kinds_on s (take i cs)) max_keys ≡ false
     → leb (kinds_on s cs) max_keys ≡ false
-kinds-over s cs i h = lt-leb (kinds_on s cs) max_keys (omega (arith, kinds-later s cs i))
+kinds-over s cs i h =
+    let grows = ap (λ (ds : List Change). kinds_on s ds) (take-append-drop i cs) in
+    lt-leb (kinds_on s cs) max_keys
+    (omega (arith, leb-false (kinds_on s (take i cs)) max_keys h, kinds_grow s (take i cs) (drop i cs), grows))
+
+-- the keys of every switch
+pub collected_none : (sets : List (List Key)) → sets ≡ replicate switch_count [] → Collected sets []
+unfolding keys_on
+collected_none sets e = record {
+  switches = rw e;
+  each = λ s h. rw (e, get_or-replicate {A = List Key} switch_count s [] [] h) gathered_none;
+}
+
+module _ {sets : List (List Key)} {cs : List Change} (g : Collected sets cs) (c : Change)
+    (known : c.switch < switch_count) where
+  pub collected_fits : leb (length (with_key (rule_key c.rule) (get_or sets c.switch []))) max_keys
+      ≡ leb (kinds_on c.switch (cs ++ c ∷ [])) max_keys
+  collected_fits = gathered_fits _ c.switch (cs ++ c ∷ []) (own_more _ c.switch cs c (g.each c.switch known) refl)
+
+  pub collected_more : Collected (set sets c.switch (with_key (rule_key c.rule) (get_or sets c.switch []))) (cs ++ c ∷ [])
+  collected_more = record {
+    switches = rw length-set g.switches;
+    each = λ s h. by_eq c.switch s
+        (λ e. rw (← e, get_or-set_same sets c.switch _ [] (omega (arith, g.switches)))
+        (own_more _ c.switch cs c (g.each c.switch known) refl))
+        (λ ne. rw (get_or-set_other sets c.switch s _ [] (λ q. ne (sym q))) (other_more _ s cs c (g.each s h) ne));
+  }
 
 keys_length : (s : ℕ) (cs : List Change) → length (keys_on s cs) ≤ length cs
 unfolding keys_on
@@ -105,6 +115,9 @@ keys_length s (c ∷ cs) =
     by_bool (eqb c.switch s) (λ e. rw e (omega arith)) (λ e. rw e (omega arith))
 
 -- a count for each switch, of the changes on it
+abbrev pub Counted : List ℕ → List Change → Type 0
+Counted counts cs = (s : ℕ) → s < switch_count → get_or counts s 0 ≡ length (keys_on s cs)
+
 pub record Tally (counts : List ℕ) (cs : List Change) : Type 0 where
   pub full : length counts ≡ switch_count
   pub each : Counted counts cs
@@ -117,7 +130,7 @@ pub tally_room : {counts : List ℕ} {cs : List Change} → Tally counts cs → 
     → get_or counts s 0 ≤ length cs
 tally_room {cs} t s h = omega (arith, t.each s h, keys_length s cs)
 
--- a change more at the end, on a known switch and on none
+-- a change more at the end, on a known switch
 module _ {counts next : List ℕ} {cs : List Change} (t : Tally counts cs) (c : Change) where
   pub tally_on : c.switch < switch_count → next ≡ set counts c.switch (get_or counts c.switch 0 + 1)
       → Tally next (cs ++ c ∷ [])
@@ -128,23 +141,18 @@ module _ {counts next : List ℕ} {cs : List Change} (t : Tally counts cs) (c : 
         (λ n. rw (keys_off s cs c n, get_or-set_other counts c.switch s _ 0 (λ q. n (sym q))) (t.each s h)));
   }
 
-  pub tally_off : switch_count ≤ c.switch → next ≡ counts → Tally next (cs ++ c ∷ [])
-  tally_off k e = record {
-    full = rw e t.full;
-    each = λ s h. rw (e, keys_off s cs c (λ q. omega arith)) (t.each s h);
-  }
+-- a switch with few changes has few keys
+pub tally_few : {counts : List ℕ} {cs : List Change} → Tally counts cs → (s : ℕ) → s < switch_count
+    → get_or counts s 0 ≤ max_keys → kinds_on s cs ≤ max_keys
+tally_few {counts} {cs} t s l h = omega (arith, t.each s l, kinds-few same_key (keys_on s cs))
 
--- where no switch has many changes, none has many keys
-pub tally_few : {counts : List ℕ} {cs : List Change} → Tally counts cs → every (λ k. leb k max_keys) counts ≡ true
-    → few_keys_below switch_count cs ≡ true
-tally_few {counts} {cs} t h =
-    few_all switch_count cs
-    (λ s l. let small = every_at (λ k. leb k max_keys) counts s 0 h (omega (arith, t.full)) in
-    omega (arith, t.each s l, kinds-few same_key (keys_on s cs), leb-true (get_or counts s 0) max_keys small))
-
--- a turn of the loop over the switches
-pub few-step : (s : ℕ) (cs : List Change) → 0 < s
-    → few_keys_below s cs ≡ (leb (kinds_on (s - 1) cs) max_keys && few_keys_below (s - 1) cs)
+-- a turn of the loop over the switches, from the first on, and where one has too many
+pub few-next : (s : ℕ) (cs : List Change) → few_keys_below s cs ≡ true → kinds_on s cs ≤ max_keys
+    → few_keys_below (s + 1) cs ≡ true
 unfolding few_keys_below
-few-step zero cs h = absurd (omega arith)
-few-step (suc s) cs h = let e : suc s - 1 ≡ s = omega arith in rw e
+few-next s cs h k = rw (add-one, h, le-leb _ _ k)
+
+pub few-fails : (n s : ℕ) (cs : List Change) → s < n → leb (kinds_on s cs) max_keys ≡ false
+    → few_keys_below n cs ≡ false
+few-fails n s cs l h =
+    by_bool (few_keys_below n cs) (λ e. tf (le-leb _ _ (few_below n s cs e l)) h) (λ e. e)

@@ -8,6 +8,7 @@ use native.Mathlib.Omega.{arith}
 use lib.Dec.{ltb, leb, eqb}
 use lib.ListN.{length, drop, length-append}
 use borrow.Author.Tests.{ltb-true, leb-true, eqb-true, eqb-false, lt-ltb, le-leb}
+use Rattle.std.specs.Prelude.{Result, Ok, Err}
 use Rattle.answer.specs.Ask.{reply, first_no}
 use Rattle.answer.specs.Limits.{switch_count}
 use Rattle.answer.proofs.Asked.{reply-from}
@@ -31,8 +32,8 @@ use Rattle.playbook.specs.declared.Change.{Change}
 use Rattle.playbook.specs.declared.Outcome.{Outcome}
 use Rattle.playbook.specs.declared.Plan.{Plan}
 use Rattle.playbook.specs.declared.Playbook.{Playbook}
-use Rattle.playbook.specs.declared.Record.{Record}
-use Rattle.playbook.specs.declared.Record.TheVariants.{Opens, Lists, Ends, Refused}
+use Rattle.playbook.specs.declared.records.Record.{Record}
+use Rattle.playbook.specs.declared.records.Record.TheVariants.{Opens, Lists, Ends}
 use Rattle.playbook.proofs.Apart.{read_step}
 use Rattle.playbook.proofs.Few.{kinds_grow, few_below, few_all, few-change}
 use Rattle.playbook.proofs.Past.{Numbered, record_number}
@@ -250,21 +251,21 @@ none_ok = refl
 
 -- reading, by what is so of the bytes passed and the book so far, and of each place and the record there: what every
 -- refusal has, and every end that the book leads to, every reading has
-module _ (P : Outcome → Type 0) (SoFar : ℕ → Book → Type 0) (Says : ℕ → Record → Type 0)
+module _ (P : Outcome → Type 0) (SoFar : ℕ → Book → Type 0) (Says : ℕ → Result Record ℕ → Type 0)
     (refuses : (k : ℕ) → 1 ≤ k → P (refusal k))
-    (ends : (used : ℕ) (b : Book) → SoFar used b → Says used Ends → P (finished (used + end_size) b))
-    (opens : (used : ℕ) (b : Book) (t : Trigger) → SoFar used b → Says used (Opens t.0 t.1)
+    (ends : (used : ℕ) (b : Book) → SoFar used b → Says used (Ok Ends) → P (finished (used + end_size) b))
+    (opens : (used : ℕ) (b : Book) (t : Trigger) → SoFar used b → Says used (Ok (Opens t.0 t.1))
     → first_no (plan_questions b t) ≡ 0 → SoFar (used + plan_size) (with_plan b t))
-    (lists : (used : ℕ) (b : Book) (c : Change) → SoFar used b → Says used (Lists c)
+    (lists : (used : ℕ) (b : Book) (c : Change) → SoFar used b → Says used (Ok (Lists c))
     → first_no (change_questions b c) ≡ 0 → SoFar (used + change_size) (with_change b c)) where
-  follow-keeps : (r : Record) (used : ℕ) (b : Book) (on : ℕ → Book → Outcome) → Numbered r → Says used r
+  follow-keeps : (r : Result Record ℕ) (used : ℕ) (b : Book) (on : ℕ → Book → Outcome) → Numbered r → Says used r
       → SoFar used b → ((skip : ℕ) (next : Book) → SoFar (used + suc skip) next → P (on skip next))
       → P (follow r b (finished (used + end_size) b) on)
-  follow-keeps (Refused k) used b on n says h f = refuses k n
-  follow-keeps Ends used b on n says h f = ends used b h says
-  follow-keeps (Opens s c) used b on n says h f =
+  follow-keeps (Err k) used b on n says h f = refuses k n
+  follow-keeps (Ok Ends) used b on n says h f = ends used b h says
+  follow-keeps (Ok (Opens s c)) used b on n says h f =
       reply-from P 1 (plan_questions b (s, c)) refusal _ refl refuses (λ pass. f _ _ (opens used b (s, c) h says pass))
-  follow-keeps (Lists c) used b on n says h f =
+  follow-keeps (Ok (Lists c)) used b on n says h f =
       reply-from P 1 (change_questions b c) refusal _ refl refuses (λ pass. f _ _ (lists used b c h says pass))
 
   pub read_keeps : (skip : ℕ) (s : List ℕ) (used : ℕ) (b : Book)

@@ -1,4 +1,4 @@
--- Laws of playbooks. Marked to Arms are for this crate alone.
+-- Laws of playbooks. Marked to Held are for this crate alone.
 pub mod Sound
 pub mod Apart
 pub mod Questions
@@ -15,8 +15,7 @@ pub mod OneForm
 mod Marked
 mod Walked
 mod Gathered
-mod Collected
-mod Hinted
 mod Steps
 mod Past
-mod Arms
+mod Turns
+mod Held

@@ -3,86 +3,64 @@
 use mathlib.Core.Path.{◌≡◌, refl, sym, ap, ◌∙◌}
 use mathlib.Core.Bool.{Bool, true, false, not, ◌&&◌, ◌||◌, and-false}
 use mathlib.Core.List.{List, [], ◌∷◌, ◌++◌, map, map-append}
-use Prim.Native.Nat.{ℕ, ◌+◌, ◌*◌, ◌<◌}
+use Prim.Native.Nat.{ℕ, ◌+◌, ◌<◌}
 use native.Mathlib.Omega.{arith}
 use lib.Dec.{eqb}
 use lib.ListN.{length, take, set, get_or, replicate, length-set, get_or-replicate, take-append-drop}
 use lib.Seq.{get_or-set_same, get_or-set_other}
-use borrow.Author.Tests.{eqb-true, eq-eqb}
+use borrow.Author.Tests.{eq-eqb}
 use Rattle.answer.specs.Limits.{switch_count}
 use Rattle.answer.proofs.Bools.{by_bool, tf, and_join, or_left}
 use Rattle.lists.specs.Kinds.{among, different}
 use Rattle.lists.proofs.Members.{among-append, among_snoc, different_snoc}
 use Rattle.lists.proofs.Stores.{take_next}
 use Rattle.playbook.specs.Books.{Trigger, trigger_of, same_trigger, has_trigger}
+use Rattle.playbook.specs.Gathering.{trigger_count, place_of, Marked}
 use Rattle.playbook.specs.declared.Plan.{Plan}
 use Rattle.playbook.proofs.Kept.{trigger_sound, trigger_mine}
 
-abbrev pub flag_count : ℕ
-flag_count = 4096
-
-abbrev pub place_of : Trigger → ℕ
-place_of t = t.0 * 256 + t.1
-
--- a flag is 0 where no plan has its trigger
-pub record Marked (used : List ℕ) (qs : List Plan) : Type 0 where
-  pub full : length used ≡ flag_count
-  pub each : (t : Trigger) → t.0 < switch_count → t.1 < 256
-      → eqb (get_or used (place_of t) 0) 0 ≡ not (has_trigger t qs)
-
-pub marked_none : (used : List ℕ) (qs : List Plan) → used ≡ replicate flag_count 0 → length used ≡ flag_count → qs ≡ []
-    → Marked used qs
+pub marked_none : (used : List Bool) → used ≡ replicate trigger_count false → Marked used []
 unfolding among
-marked_none used qs u l e = record {
-  full = l;
-  each = λ t s c. rw (e, u) (eq-eqb _ _ (get_or-replicate flag_count (place_of t) 0 0 (omega arith)));
+marked_none used u = record {
+  full = rw u;
+  each = λ t s c. rw u (get_or-replicate trigger_count (place_of t) false false (omega arith));
 }
 
 trigger_snoc : (qs : List Plan) (q : Plan) (t : Trigger)
     → has_trigger t (qs ++ q ∷ []) ≡ (same_trigger (trigger_of q) t || has_trigger t qs)
 trigger_snoc qs q t = rw map-append (among_snoc same_trigger t (trigger_of q) (map trigger_of qs))
 
-module _ {used : List ℕ} {qs : List Plan} (m : Marked used qs) (t : Trigger) (place : ℕ) (here : place ≡ place_of t)
-    (switch : t.0 < switch_count) (cause : t.1 < 256) where
-  -- what a flag tells
-  pub marked_used : (get_or used place 0 ≡ 0 → ⊥) → has_trigger t qs ≡ true
-  marked_used n =
-      by_bool (has_trigger t qs) (λ e. e)
-      (λ e. absurd (n (rw here (eqb-true _ _ (m.each t switch cause ∙ ap not e)))))
-
-  pub marked_new : get_or used place 0 ≡ 0 → has_trigger t qs ≡ false
-  marked_new z =
-      by_bool (has_trigger t qs)
-      (λ e. tf (eq-eqb _ _ (rw here at z)) (m.each t switch cause ∙ ap not e)) (λ e. e)
-
 -- a plan more
-module _ {used : List ℕ} {qs : List Plan} (m : Marked used qs) (q : Plan) (place : ℕ)
-    (here : place ≡ place_of (trigger_of q)) (switch : q.switch < switch_count) (cause : q.cause < 256) where
+module _ {used : List Bool} {qs : List Plan} (m : Marked used qs) (q : Plan) (switch : q.switch < switch_count)
+    (cause : q.cause < 256) where
+  abbrev place : ℕ
+  place = place_of (trigger_of q)
+
   other : (u : Trigger) → u.1 < 256 → same_trigger (trigger_of q) u ≡ false → place_of u ≡ place → ⊥
   other u c e p =
       tf (and_join (eqb q.switch u.0) _ (eq-eqb q.switch u.0 (omega arith))
       (eq-eqb q.cause u.1 (omega arith))) e
 
   flag : (u : Trigger) → u.0 < switch_count → u.1 < 256
-      → eqb (get_or (set used place 1) (place_of u) 0) 0 ≡ not (same_trigger (trigger_of q) u || has_trigger u qs)
+      → get_or (set used place true) (place_of u) false ≡ (same_trigger (trigger_of q) u || has_trigger u qs)
   flag u s c =
       by_bool (same_trigger (trigger_of q) u)
-      (λ e. let same : place_of u ≡ place = sym (here ∙ ap place_of (trigger_sound (trigger_of q) u e)) in
-      rw (e, same, get_or-set_same used place 1 0 (omega (arith, m.full))))
-      (λ e. rw (e, get_or-set_other used place (place_of u) 1 0 (other u c e)) (m.each u s c))
+      (λ e. let same : place_of u ≡ place = sym (ap place_of (trigger_sound (trigger_of q) u e)) in
+      rw (e, same, get_or-set_same used place true false (omega (arith, m.full))))
+      (λ e. rw (e, get_or-set_other used place (place_of u) true false (other u c e)) (m.each u s c))
 
-  pub marked_more : Marked (set used place 1) (qs ++ q ∷ [])
+  pub marked_more : Marked (set used place true) (qs ++ q ∷ [])
   marked_more = record {
     full = rw length-set m.full;
-    each = λ u s c. flag u s c ∙ ap not (sym (trigger_snoc qs q u));
+    each = λ u s c. flag u s c ∙ sym (trigger_snoc qs q u);
   }
 
 -- plans with the same triggers
-pub marked-same : {used : List ℕ} {qs rs : List Plan} → Marked used qs → map trigger_of qs ≡ map trigger_of rs
+pub marked-same : {used : List Bool} {qs rs : List Plan} → Marked used qs → map trigger_of qs ≡ map trigger_of rs
     → Marked used rs
 marked-same m e = record {
   full = m.full;
-  each = λ t s c. m.each t s c ∙ ap (λ (ts : List Trigger). not (among same_trigger t ts)) e;
+  each = λ t s c. m.each t s c ∙ ap (λ (ts : List Trigger). among same_trigger t ts) e;
 }
 
 -- two that are the same in a beginning are the same in the whole

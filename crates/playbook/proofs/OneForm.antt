@@ -8,6 +8,7 @@ use Prim.Native.Nat.{ℕ, suc, ◌+◌, ◌-◌, ◌≤◌, ◌<◌}
 use native.Mathlib.Omega.{arith}
 use lib.ListN.{length, take, drop, length-append, length-drop, take-append-drop, drop_of_length-le}
 use lib.Seq.{drop-cons, drop-drop, take_all, take-append-le, drop-append-le}
+use Rattle.std.specs.Prelude.{Result, Ok, Err}
 use Rattle.answer.specs.Ask.{first_no}
 use Rattle.lists.specs.Bytes.{be, field, byte_at, AreBytes}
 use Rattle.lists.proofs.Numbers.{be-field, bytes_drop}
@@ -23,8 +24,8 @@ use Rattle.playbook.specs.Asking.{record_at, plan_questions, change_questions}
 use Rattle.playbook.specs.declared.Change.{Change}
 use Rattle.playbook.specs.declared.Outcome.{Outcome}
 use Rattle.playbook.specs.declared.Plan.{Plan}
-use Rattle.playbook.specs.declared.Record.{Record}
-use Rattle.playbook.specs.declared.Record.TheVariants.{Opens, Lists, Ends, Refused}
+use Rattle.playbook.specs.declared.records.Record.{Record}
+use Rattle.playbook.specs.declared.records.Record.TheVariants.{Opens, Lists, Ends}
 use Rattle.playbook.proofs.Kept.{book_parts, book_fits, plan_kept, change-kept, none_ok}
 use Rattle.playbook.proofs.Kept.{read_keeps, whole-first}
 use Rattle.playbook.proofs.Past.{record_keeps}
@@ -131,11 +132,11 @@ module _ (s : List ℕ) where
 
 module _ (s : List ℕ) (bytes : AreBytes s) where
   -- the bytes from a place on are a record's and those behind it
-  abbrev Says : ℕ → Record → Type 0
-  Says at (Opens switch cause) = drop at s ≡ plan_kind ∷ switch ∷ cause ∷ drop (at + plan_size) s
-  Says at (Lists c) = drop at s ≡ change_bytes c (drop (at + change_size) s)
-  Says at Ends = drop at s ≡ end_kind ∷ drop (at + end_size) s
-  Says at (Refused k) = Unit {0}
+  abbrev Says : ℕ → Result Record ℕ → Type 0
+  Says at (Ok (Opens switch cause)) = drop at s ≡ plan_kind ∷ switch ∷ cause ∷ drop (at + plan_size) s
+  Says at (Ok (Lists c)) = drop at s ≡ change_bytes c (drop (at + change_size) s)
+  Says at (Ok Ends) = drop at s ≡ end_kind ∷ drop (at + end_size) s
+  Says at (Err k) = Unit {0}
 
   says : (at : ℕ) → Says at (record_at (drop at s))
   says at =
@@ -149,7 +150,7 @@ module _ (s : List ℕ) (bytes : AreBytes s) where
   abbrev SoFar : ℕ → Book → Type 0
   SoFar used b = (book_ok b ≡ true) × (plans_bytes b.plans b.changes (drop used s) ≡ s)
 
-  opens : (used : ℕ) (b : Book) (t : Trigger) → SoFar used b → Says used (Opens t.0 t.1)
+  opens : (used : ℕ) (b : Book) (t : Trigger) → SoFar used b → Says used (Ok (Opens t.0 t.1))
       → first_no (plan_questions b t) ≡ 0 → SoFar (used + plan_size) (with_plan b t)
   opens used b t h here pass = (
     plan_kept b t h.0 pass,
@@ -157,7 +158,7 @@ module _ (s : List ℕ) (bytes : AreBytes s) where
         ∙ ap (plans_bytes b.plans b.changes) (sym here) ∙ h.1,
   )
 
-  lists : (used : ℕ) (b : Book) (c : Change) → SoFar used b → Says used (Lists c)
+  lists : (used : ℕ) (b : Book) (c : Change) → SoFar used b → Says used (Ok (Lists c))
       → first_no (change_questions b c) ≡ 0 → SoFar (used + change_size) (with_change b c)
   lists used b c h here pass =
       let z : 0 + length b.changes ≡ length b.changes = omega arith in (
@@ -171,7 +172,7 @@ module _ (s : List ℕ) (bytes : AreBytes s) where
   abbrev Printed : Outcome → Type 0
   Printed r = r.answer ≡ 0 → bytes_of r.playbook ++ drop r.used s ≡ s
 
-  ends : (used : ℕ) (b : Book) → SoFar used b → Says used Ends → Printed (finished (used + end_size) b)
+  ends : (used : ℕ) (b : Book) → SoFar used b → Says used (Ok Ends) → Printed (finished (used + end_size) b)
   ends used b h here zero =
       let left = drop (used + end_size) s in
       ap (λ (c : Book). plans_bytes c.plans c.changes (end_kind ∷ []) ++ left)

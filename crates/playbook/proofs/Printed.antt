@@ -10,6 +10,7 @@ use lib.Dec.{ltb}
 use lib.ListN.{length, take, drop, length-append, length-drop, take-append-drop}
 use lib.Seq.{length-take-le}
 use borrow.Author.Tests.{ltb-true, eq-eqb}
+use Rattle.std.specs.Prelude.{Ok}
 use Rattle.answer.proofs.Asked.{asked, none_asked, all_yes}
 use Rattle.answer.proofs.Bools.{and_parts}
 use Rattle.answer.specs.Ask.{first_no}
@@ -29,7 +30,7 @@ use Rattle.playbook.specs.Asking.{record_at, plan_questions, change_questions}
 use Rattle.playbook.specs.declared.Change.{Change}
 use Rattle.playbook.specs.declared.Plan.{Plan}
 use Rattle.playbook.specs.declared.Playbook.{Playbook}
-use Rattle.playbook.specs.declared.Record.TheVariants.{Lists, Ends}
+use Rattle.playbook.specs.declared.records.Record.TheVariants.{Lists, Ends}
 use Rattle.playbook.proofs.Kept.{stored_parts, stored_limits, stored_sound, plan_back, change_back}
 use Rattle.playbook.proofs.Past.{whole_record, by_record}
 use Rattle.playbook.proofs.Questions.{change_passes}
@@ -38,7 +39,7 @@ use Rattle.playbook.proofs.Spans.{span_parts, span_none, span_le}
 
 -- what a printed change is read as
 change_record_lem : (c : Change) (rest : List ℕ) → well_formed c.rule ≡ true → rule_in_range c ≡ true
-    → record_at (change_bytes c rest) ≡ Lists c
+    → record_at (change_bytes c rest) ≡ Ok (Lists c)
 unfolding be field
 change_record_lem c rest w r =
     let port = (and_parts (prefix_ok (rule_key c.rule)) _ w).1 in
@@ -47,14 +48,14 @@ change_record_lem c rest w r =
     let y = num-be 2 (port_of c.rule.action) (ltb-true _ _ range.1) in
     let rule = ap₂ (λ (prefix port : ℕ). rule_of prefix c.rule.length port) x y ∙ port-rule c.rule port in
     whole_record (change_bytes c rest) change_kind refl refl (omega arith)
-    ∙ (λ i. Lists (record { flow = c.flow; switch = c.switch; rule = rule i }))
+    ∙ (λ i. Ok (Lists (record { flow = c.flow; switch = c.switch; rule = rule i })))
 
 -- the reader past a record that passes its questions
 past_plan : (t : Trigger) (rest : List ℕ) (used : ℕ) (b : Book) → first_no (plan_questions b t) ≡ 0
     → read_from 0 (plan_kind ∷ t.0 ∷ t.1 ∷ rest) used b ≡ read_from 0 rest (used + plan_size) (with_plan b t)
 past_plan t rest used b pass =
     let l = plan_kind ∷ t.0 ∷ t.1 ∷ rest in
-    by_record l used b _ (omega arith) (whole_record l plan_kind refl refl (omega arith))
+    by_record l used b _ (whole_record l plan_kind refl refl (omega arith))
     ∙ all_yes (plan_questions b t) refusal _ refl pass
 
 past_change : (c : Change) (rest : List ℕ) (used : ℕ) (b : Book) → rule_in_range c ≡ true
@@ -63,12 +64,12 @@ past_change : (c : Change) (rest : List ℕ) (used : ℕ) (b : Book) → rule_in
 unfolding be
 past_change c rest used b r pass =
     let formed = (change_passes b c pass).formed in
-    by_record (change_bytes c rest) used b (Lists c) (omega arith) (change_record_lem c rest formed r)
+    by_record (change_bytes c rest) used b (Ok (Lists c)) (change_record_lem c rest formed r)
     ∙ all_yes (change_questions b c) refusal _ refl pass
 
 past_end : (used : ℕ) (b : Book) → read_from 0 (end_kind ∷ []) used b ≡ finished (used + 1) b
 past_end used b =
-    by_record (end_kind ∷ []) used b Ends (omega arith) (whole_record (end_kind ∷ []) end_kind refl refl (omega arith))
+    by_record (end_kind ∷ []) used b (Ok Ends) (whole_record (end_kind ∷ []) end_kind refl refl (omega arith))
 
 -- how many bytes are printed
 printed-changes : (cs : List Change) (rest : List ℕ)

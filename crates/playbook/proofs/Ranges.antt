@@ -7,6 +7,7 @@ use Prim.Native.Nat.{ℕ, ◌≤◌}
 use native.Mathlib.Omega.{arith}
 use lib.ListN.{length, drop}
 use borrow.Author.Tests.{lt-ltb}
+use Rattle.std.specs.Prelude.{Result, Ok, Err}
 use Rattle.answer.proofs.Bools.{and_join}
 use Rattle.lists.specs.Arrays.{every}
 use Rattle.lists.specs.Bytes.{field, AreBytes}
@@ -22,17 +23,17 @@ use Rattle.playbook.specs.Records.{change_of}
 use Rattle.playbook.specs.Storing.{book_ok}
 use Rattle.playbook.specs.Asking.{record_at}
 use Rattle.playbook.specs.declared.Outcome.{Outcome}
-use Rattle.playbook.specs.declared.Record.{Record}
-use Rattle.playbook.specs.declared.Record.TheVariants.{Opens, Lists, Ends, Refused}
+use Rattle.playbook.specs.declared.records.Record.{Record}
+use Rattle.playbook.specs.declared.records.Record.TheVariants.{Opens, Lists, Ends}
 use Rattle.playbook.proofs.Kept.{book_parts, plan_kept, change-kept, none_ok, read_keeps, whole-keeps}
 use Rattle.playbook.proofs.Past.{record_keeps}
 
 -- the rule that a record lists, if it lists one, is in range
-abbrev record_in_range : Record → Bool
-record_in_range (Lists c) = rule_in_range c
-record_in_range (Opens s c) = true
-record_in_range Ends = true
-record_in_range (Refused k) = true
+abbrev record_in_range : Result Record ℕ → Bool
+record_in_range (Ok (Lists c)) = rule_in_range c
+record_in_range (Ok (Opens s c)) = true
+record_in_range (Ok Ends) = true
+record_in_range (Err k) = true
 
 -- so it is in bytes
 module _ (s : List ℕ) (bytes : AreBytes s) where

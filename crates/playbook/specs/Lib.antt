@@ -1,5 +1,5 @@
 -- The playbook's store, its records, what reading does, which stores it leaves, and the plan of a trigger. Printing is
--- for laws, Asking and Gathering are for inner functions.
+-- for laws, Asking, Gathering and Members are for inner functions.
 pub mod Limits
 pub mod Books
 pub mod Records
@@ -9,3 +9,4 @@ pub mod Printing
 pub mod Plans
 pub mod Asking
 pub mod Gathering
+pub mod Members

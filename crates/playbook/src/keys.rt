@@ -1,117 +1,97 @@
-// How many different prefixes with lengths a switch has in a playbook (question 37).
-ghost use Rattle.std.specs.Prelude.{◌≡◌, ◌%◌, ◌≤◌, ◌<◌, false, leb, eqb, length, take};
-ghost use Rattle.answer.specs.Limits.{switch_count};
-ghost use Rattle.flow.specs.Rules.{rule_key};
-ghost use Rattle.lists.specs.Arrays.{every};
+// The different prefixes with lengths that a switch has in a playbook (question 37).
+ghost use Rattle.std.specs.Prelude.{◌≡◌, ℕ, ◌<◌, ◌≤◌, [], false, leb, length, take, get_or};
+ghost use Rattle.answer.specs.Ask.{pick};
 ghost use Rattle.lists.specs.Kinds.{among};
-ghost use Rattle.playbook.specs.Limits.{max_changes, max_keys};
+ghost use Rattle.flow.specs.Rules.{Key, rule_key, same_key};
+ghost use Rattle.playbook.specs.Limits.{max_keys};
 ghost use Rattle.playbook.specs.Books.{kinds_on};
-ghost use Rattle.playbook.specs.Storing.{few_keys_below};
-ghost use Rattle.playbook.specs.Gathering.{key_number, Counted};
+ghost use Rattle.playbook.specs.Gathering.{mark_of, with_key};
 
 use crate::{Change, limits};
 use flow::Rule;
 
-// A prefix and its length as one number.
-pub(crate) fn key_number(rule: Rule) -> u64
-    ensures { (result ≡ key_number (rule_key rule)) × (rule.length < 256) }
+// A prefix and its length.
+pub(crate) type Key = (u32, u8);
+
+pub(crate) fn rule_key(rule: Rule) -> Key
+    ensures { result ≡ rule_key rule }
 {
-    (rule.prefix as u64) * 256 + (rule.length as u64)
+    (rule.prefix, rule.length)
 }
 
-// Whether a key is one of the first n.
-fn holds(keys: &[u64], n: usize, key: u64) -> bool
-    requires { n ≤ length keys.now }
-    ensures { result ≡ among eqb key (take n keys.now) }
+// A number by which keys are told apart at first.
+fn mark_of(key: Key) -> usize
+    ensures { result ≡ mark_of key }
 {
-    let mut i: usize = 0;
-    while i < n {
-        if keys[i] == key {
-            return true;
-        }
-        i += 1;
-    }
-    false
+    ((u64::from(key.0) * 256 + u64::from(key.1)) % (limits::MARKS as u64)) as usize
 }
 
-// A byte by which keys are told apart at first.
-pub(crate) fn mark_of(key: u64) -> u8
-    ensures { result ≡ key % 251 }
-{
-    (key % 251) as u8
+// A set of keys: the first `count` of `held`, in the order in which they came. A hint is 0 where none of them has its
+// mark; else it is likely the place behind the key that is looked for.
+#[derive(Clone, Copy)]
+pub(crate) struct Keys {
+    held: [Key; limits::KEYS],
+    count: usize,
+    hints: [u8; limits::MARKS],
+    ghost room: { count ≤ max_keys },
+    ghost within: { (m : ℕ) → m < 251 → get_or hints m 0 ≤ count },
+    ghost hinted: { (k : Key) → get_or hints (mark_of k) 0 ≡ 0
+        → among same_key k (take count held) ≡ false },
 }
 
-// Whether a key is one of the first n: the hint is 0 where none of them has its mark, else it is likely the hint-th. Only
-// where it is another they are all compared.
-pub(crate) fn knows(keys: &[u64], n: usize, hint: usize, key: u64) -> bool
-    requires { (n ≤ length keys.now) × (hint ≤ n) × (hint ≡ 0 → among eqb key (take n keys.now) ≡ false) }
-    ensures { result ≡ among eqb key (take n keys.now) }
-{
-    if hint == 0 {
-        return false;
-    }
-    if keys[hint - 1] == key {
-        return true;
-    }
-    holds(keys, n, key)
-}
-
-// Whether the first n changes have not too many different keys on a switch. From the last change to the first, the keys
-// that no later change has are gathered, so a change is compared with at most 64 of them and not with every other.
-fn keys_fit(changes: [Change; limits::CHANGES], n: usize, switch: u8) -> bool
-    requires { n ≤ max_changes }
-    ensures { result ≡ leb (kinds_on switch (take n changes)) max_keys }
-{
-    let mut seen = [0u64; limits::KEYS];
-    let mut count: usize = 0;
-    let mut i = n;
-    while 0 < i {
-        i -= 1;
-        let c = changes[i];
-        if c.switch == switch {
-            let key = key_number(c.rule);
-            if !holds(&seen, count, key) {
-                if limits::KEYS <= count {
-                    return false;
-                }
-                seen[count] = key;
-                count += 1;
-            }
+impl Keys {
+    pub(crate) fn new() -> Keys
+        ensures { take result.count result.held ≡ [] }
+    {
+        Keys {
+            held: [(0, 0); limits::KEYS],
+            count: 0,
+            hints: [0; limits::MARKS],
         }
     }
-    true
-}
 
-// Whether no switch has more changes than it may have keys.
-pub(crate) fn few_on(on: &[usize]) -> bool
-    ensures { result ≡ every (λ k. leb k max_keys) on.now }
-{
-    let mut i: usize = 0;
-    while i < on.len() {
-        if limits::KEYS < on[i] {
+    // Whether a key is held. Only where its hint leads to another key are all of them compared.
+    #[inline(always)]
+    fn contains(&self, key: Key) -> bool
+        ensures { result ≡ among same_key key (take self.now.count self.now.held) }
+    {
+        let hint = usize::from(self.hints[mark_of(key)]);
+        if hint == 0 {
             return false;
         }
-        i += 1;
+        self.held[hint - 1] == key || self.held[..self.count].contains(&key)
     }
-    true
+
+    // Adds a key, and tells whether there was room: a key that is held needs none.
+    #[inline(always)]
+    pub(crate) fn insert(&mut self, key: Key) -> bool
+        ensures told { result
+            ≡ leb (length (with_key key (take self.old.count self.old.held))) max_keys }
+        ensures added { take self.new.count self.new.held
+            ≡ pick result (with_key key (take self.old.count self.old.held))
+            (take self.old.count self.old.held) }
+    {
+        if self.contains(key) {
+            return true;
+        }
+        if limits::KEYS <= self.count {
+            return false;
+        }
+        self.held[self.count] = key;
+        self.count += 1;
+        self.hints[mark_of(key)] = self.count as u8;
+        true
+    }
 }
 
-// Whether no switch has too many different keys. A switch with few changes has few keys.
-pub(crate) fn keys_ok(
-    changes: [Change; limits::CHANGES],
-    n: usize,
-    on: [usize; limits::PLACES],
-) -> bool
-    requires { (n ≤ max_changes) × Counted on (take n changes) }
-    ensures { result ≡ few_keys_below switch_count (take n changes) }
+// Whether changes have not too many different keys on a switch.
+pub(crate) fn keys_fit(changes: &[Change], switch: u8) -> bool
+    ensures { result ≡ leb (kinds_on switch changes.now) max_keys }
 {
-    let mut s = limits::SWITCHES;
-    while 0 < s {
-        s -= 1;
-        if limits::KEYS < on[s as usize] {
-            if !keys_fit(changes, n, s) {
-                return false;
-            }
+    let mut keys = Keys::new();
+    for change in changes {
+        if change.switch == switch && !keys.insert(rule_key(change.rule)) {
+            return false;
         }
     }
     true

@@ -13,6 +13,7 @@ mod plans;
 mod reading;
 mod records;
 mod storing;
+mod triggers;
 
 pub use books::empty;
 pub use plans::plan_of;
@@ -28,7 +29,7 @@ pub struct Change {
 }
 
 // A plan: the switch and cause that trigger it, and where its changes stand.
-#[derive(Clone, Copy)]
+#[derive(Clone, Copy, PartialEq, Eq)]
 pub struct Plan {
     pub switch: u8,
     pub cause: u8,
@@ -51,13 +52,4 @@ pub struct Outcome {
     pub answer: u8,
     pub used: usize,
     pub playbook: Playbook,
-}
-
-// A record of a playbook, or the number of the question that refuses the bytes.
-#[derive(Clone, Copy)]
-pub(crate) enum Record {
-    Opens { switch: u8, cause: u8 },
-    Lists(Change),
-    Ends,
-    Refused(u8),
 }

@@ -8,8 +8,8 @@ pub const CHANGES: usize = 512;
 pub const CHANGES_OF_PLAN: usize = 32;
 // Different prefixes with lengths on one switch.
 pub const KEYS: usize = 64;
-// One place for each of these on each switch.
-pub(crate) const ALL_KEYS: usize = KEYS * answer::limits::OF_SWITCHES;
+// Numbers by which they are told apart at first: fewer than a byte has.
+pub(crate) const MARKS: usize = 251;
 
 pub(crate) const SWITCHES: u8 = answer::limits::SWITCHES;
 // One place for each switch.

@@ -1,49 +1,58 @@
-// The record that stands at a place of a playbook's bytes.
-ghost use Rattle.std.specs.Prelude.{◌≡◌, ◌+◌, ◌≤◌, ◌<◌, length, drop};
-ghost use Rattle.playbook.specs.Limits.{change_size};
-ghost use Rattle.playbook.specs.Records.{change_of};
-ghost use Rattle.playbook.specs.Asking.{record_at};
+// The record that stands at the front of a playbook's bytes.
+ghost use Rattle.std.specs.Prelude.{◌≡◌};
+ghost use Rattle.playbook.specs.Asking.{record_at, bytes_of_record};
 
-use crate::{Change, Record, limits};
+use crate::{Change, limits};
 
-fn change_at(s: &[u8], at: usize) -> Change
-    requires { at + change_size ≤ length s.now }
-    ensures { result ≡ change_of (drop at s.now) }
-{
-    let prefix = lists::u32_of(s[at + 3], s[at + 4], s[at + 5], s[at + 6]);
-    let port = lists::u16_of(s[at + 8], s[at + 9]);
-    let rule = flow::rule_of(prefix, s[at + 7], port);
-    Change {
-        flow: s[at + 1],
-        switch: s[at + 2],
-        rule: rule,
+// A record of a playbook.
+#[derive(Clone, Copy)]
+pub(crate) enum Record {
+    Opens { switch: u8, cause: u8 },
+    Lists(Change),
+    Ends,
+}
+
+impl Record {
+    // The bytes that it takes.
+    pub(crate) fn size(&self) -> usize
+        ensures { result ≡ bytes_of_record self.now }
+    {
+        match self {
+            Record::Opens { .. } => limits::PLAN_SIZE,
+            Record::Lists(_) => limits::CHANGE_SIZE,
+            Record::Ends => limits::END_SIZE,
+        }
     }
 }
 
-// Questions 31 and 30, of bytes of which one is left.
-pub(crate) fn record_at(s: &[u8], at: usize) -> Record
-    requires { at < length s.now }
-    ensures { result ≡ record_at (drop at s.now) }
+// Questions 30, 31 and 30: the record, or the number of the first that refuses the bytes.
+#[tactic(auto, unfolding(crate::specs::Asking::record_at, answer::specs::Ask::reply, lists::specs::Bytes::field))]
+pub(crate) fn record_at(s: &[u8]) -> Result<Record, u8>
+    ensures { result ≡ record_at s.now }
 {
-    let left = s.len() - at;
-    let kind = s[at];
-    if kind == limits::PLAN {
-        if left < limits::PLAN_SIZE {
-            return Record::Refused(answer::CUT_SHORT);
+    match *s {
+        [limits::PLAN, switch, cause, ..] => Ok(Record::Opens { switch, cause }),
+        [
+            limits::CHANGE,
+            flow,
+            switch,
+            a,
+            b,
+            c,
+            d,
+            length,
+            high,
+            low,
+            ..
+        ] => {
+            Ok(Record::Lists(Change {
+                flow,
+                switch,
+                rule: flow::rule_of(lists::u32_of(a, b, c, d), length, lists::u16_of(high, low)),
+            }))
         }
-        return Record::Opens {
-            switch: s[at + 1],
-            cause: s[at + 2],
-        };
+        [limits::END, ..] => Ok(Record::Ends),
+        [limits::PLAN | limits::CHANGE, ..] | [] => Err(answer::CUT_SHORT),
+        _ => Err(answer::UNKNOWN_KIND),
     }
-    if kind == limits::CHANGE {
-        if left < limits::CHANGE_SIZE {
-            return Record::Refused(answer::CUT_SHORT);
-        }
-        return Record::Lists(change_at(s, at));
-    }
-    if kind == limits::END {
-        return Record::Ends;
-    }
-    Record::Refused(answer::UNKNOWN_KIND)
 }

@@ -1,152 +1,67 @@
 // Whether a store is such as the reader stores.
-ghost use Rattle.std.specs.Prelude.{◌≡◌, ◌≤◌, ◌&&◌, map, ltb, leb, eqb, take, drop};
+ghost use Rattle.std.specs.Prelude.{◌≡◌, ◌≤◌, ◌&&◌, map, length};
 ghost use Rattle.answer.specs.Limits.{switch_count};
 ghost use Rattle.lists.specs.Arrays.{every};
 ghost use Rattle.lists.specs.Kinds.{different};
-ghost use Rattle.playbook.specs.Limits.{max_plans, max_changes, max_of_plan};
+ghost use Rattle.playbook.specs.Limits.{max_plans, max_changes};
 ghost use Rattle.playbook.specs.Books.{trigger_of, same_trigger};
 ghost use Rattle.playbook.specs.Storing.{spans, change_ok, few_keys_below, plan_empty, change_empty, stored_ok};
 
-use crate::keys::{few_on, keys_ok};
-use crate::plans::place_of;
+use crate::keys::keys_fit;
+use crate::triggers::Triggers;
 use crate::{Change, Plan, Playbook, limits};
 
-// Whether a plan is on a known switch, not too long, and has its changes from a place on.
-fn span_ok(q: Plan, start: usize) -> bool
-    ensures { result ≡ (ltb q.switch switch_count && leb q.count max_of_plan && eqb q.first start) }
+// Whether plans have their changes one after another up to an end, no trigger stands twice, and the unused plans are
+// empty.
+fn plans_ok(plans: &[Plan], unused: &[Plan], end: usize) -> bool
+    requires { length plans.now ≤ max_plans }
+    ensures { result ≡ (spans 0 end plans.now && different same_trigger (map trigger_of plans.now)
+        && every plan_empty unused.now) }
 {
-    if limits::SWITCHES <= q.switch {
-        return false;
+    let mut triggers = Triggers::new();
+    let mut start = 0;
+    for plan in plans {
+        if !plan.spans_from(start) || !triggers.insert(plan.switch, plan.cause) {
+            return false;
+        }
+        start += plan.count;
     }
-    if limits::CHANGES_OF_PLAN < q.count {
-        return false;
-    }
-    q.first == start
+    start == end && unused.iter().all(|plan| plan.is_empty())
 }
 
-fn plan_empty(q: Plan) -> bool
-    ensures { result ≡ plan_empty q }
+// Whether changes are on known switches with well-formed rules, the unused ones are empty, and no switch has too many
+// different keys. In most playbooks each switch has few changes, and so few keys: then no two of them are compared.
+fn changes_ok(changes: &[Change], unused: &[Change]) -> bool
+    requires { length changes.now ≤ max_changes }
+    ensures { result ≡ (every change_ok changes.now && every change_empty unused.now
+        && few_keys_below switch_count changes.now) }
 {
-    if q.switch == 0 {
-        if q.cause == 0 {
-            if q.first == 0 { q.count == 0 } else { false }
-        } else {
-            false
-        }
-    } else {
-        false
-    }
-}
-
-// Whether the first n plans have their changes one after another to an end, no trigger stands twice, and the other
-// plans are empty. A flag for each trigger tells whether an earlier plan has it.
-fn plans_ok(plans: [Plan; limits::PLANS], n: usize, end: usize) -> bool
-    requires { n ≤ max_plans }
-    ensures { result ≡ (spans 0 end (take n plans) && different same_trigger (map trigger_of (take n plans))
-        && every plan_empty (drop n plans)) }
-{
-    let mut used = [0u8; limits::PAIRS];
-    let mut start: usize = 0;
-    let mut i: usize = 0;
-    while i < n {
-        let q = plans[i];
-        if !span_ok(q, start) {
+    let mut on = [0; limits::PLACES];
+    for change in changes {
+        if !change.is_ok() {
             return false;
         }
-        let t = place_of(q.switch, q.cause);
-        if used[t] != 0 {
-            return false;
-        }
-        used[t] = 1;
-        start += q.count;
-        i += 1;
+        on[usize::from(change.switch)] += 1;
     }
-    if start != end {
+    if !unused.iter().all(|change| change.is_empty()) {
         return false;
     }
-    while i < limits::PLANS {
-        let q = plans[i];
-        if !plan_empty(q) {
+    for switch in 0..limits::SWITCHES {
+        if limits::KEYS < on[usize::from(switch)] && !keys_fit(changes, switch) {
             return false;
         }
-        i += 1;
     }
     true
-}
-
-fn change_ok(c: Change) -> bool
-    ensures { result ≡ change_ok c }
-{
-    if c.switch < limits::SWITCHES {
-        let rule = c.rule;
-        flow::well_formed(rule)
-    } else {
-        false
-    }
-}
-
-fn change_empty(c: Change) -> bool
-    ensures { result ≡ change_empty c }
-{
-    if c.flow == 0 {
-        if c.switch == 0 {
-            let rule = c.rule;
-            flow::rule_empty(rule)
-        } else {
-            false
-        }
-    } else {
-        false
-    }
-}
-
-// Whether the first n changes are on known switches with well-formed rules, no switch has too many different keys, and
-// the other changes are empty. In most playbooks each switch has few changes, and no two of them are compared.
-fn changes_ok(changes: [Change; limits::CHANGES], n: usize) -> bool
-    requires { n ≤ max_changes }
-    ensures { result ≡ (every change_ok (take n changes) && every change_empty (drop n changes)
-        && few_keys_below switch_count (take n changes)) }
-{
-    let mut on = [0usize; limits::PLACES];
-    let mut i: usize = 0;
-    while i < n {
-        let c = changes[i];
-        if !change_ok(c) {
-            return false;
-        }
-        let s = c.switch as usize;
-        on[s] = on[s] + 1;
-        i += 1;
-    }
-    while i < limits::CHANGES {
-        let c = changes[i];
-        if !change_empty(c) {
-            return false;
-        }
-        i += 1;
-    }
-    if few_on(&on) {
-        return true;
-    }
-    keys_ok(changes, n, on)
 }
 
 // Whether a playbook is such as its reader stores.
 pub fn stored(p: Playbook) -> bool
     ensures { result ≡ stored_ok p }
 {
-    let n = p.planned;
-    let m = p.listed;
-    if limits::PLANS < n {
+    if limits::PLANS < p.planned || limits::CHANGES < p.listed {
         return false;
     }
-    if limits::CHANGES < m {
-        return false;
-    }
-    let plans = p.plans;
-    if !plans_ok(plans, n, m) {
-        return false;
-    }
-    let changes = p.changes;
-    changes_ok(changes, m)
+    let (plans, unused_plans) = p.plans.split_at(p.planned);
+    let (changes, unused_changes) = p.changes.split_at(p.listed);
+    plans_ok(plans, unused_plans, p.listed) && changes_ok(changes, unused_changes)
 }

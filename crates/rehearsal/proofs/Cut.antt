@@ -8,6 +8,7 @@ use borrow.Author.Tests.{lt-leb, lt-ltb}
 use lib.Dec.{leb, ltb}
 use lib.ListN.{length, take, drop, length-take, length-drop}
 use lib.Seq.{take_all}
+use Rattle.std.specs.Prelude.{Option}
 use Rattle.answer.specs.Ask.{reply}
 use Rattle.answer.proofs.Bools.{tf, by_le}
 use Rattle.playbook.specs.Books.{no_plans, store_of}
@@ -18,7 +19,6 @@ use Rattle.rehearsal.specs.Limits.{longest_script, longest_input}
 use Rattle.rehearsal.specs.Worlds.{world_of}
 use Rattle.rehearsal.specs.Scripts.{line_of, lines_from, script_in, input_questions, world_in, lines_of}
 use Rattle.rehearsal.specs.Deeds.{deeds_from, told_by, told_of}
-use Rattle.rehearsal.specs.declared.Dropped.{Dropped}
 use Rattle.rehearsal.specs.declared.World.{World}
 
 -- the longest input that can be rehearsed, and one byte more
@@ -75,7 +75,7 @@ pub cut-same : (input : List ℕ) → lines_of (take looked input) ≡ lines_of 
 unfolding lines_of
 cut-same = cut-after (λ q. line_of 0 q 0 ∷ []) (λ script world. lines_from 0 script 1 world)
 
-pub cut_told : (d : Dropped) (input : List ℕ) → told_of d (take looked input) ≡ told_of d input
+pub cut_told : (d : Option ℕ) (input : List ℕ) → told_of d (take looked input) ≡ told_of d input
 unfolding told_of
 cut_told d =
     cut-after (λ q. told_by q ([], world_of 0 (store_of no_plans)))

@@ -10,6 +10,7 @@ use borrow.Author.Tests.{eq-eqb, ne_eqb}
 use lib.Dec.{eqb}
 use lib.ListN.{length, take, get_or, set, replicate, length-set}
 use lib.Seq.{get_or-set_same, get_or-set_other}
+use Rattle.std.specs.Prelude.{Option, Result, Ok, Err}
 use Rattle.answer.specs.Ask.{reply}
 use Rattle.answer.proofs.Asked.{reply-from}
 use Rattle.answer.proofs.Bools.{by_bool, by_eq}
@@ -31,21 +32,18 @@ use Rattle.controller.specs.declared.Controller.{Controller}
 use Rattle.controller.specs.declared.Reply as controller
 use Rattle.controller.proofs.Deciding.{Decided, declined, taken, decision}
 use Rattle.controller.proofs.Taken as controller-takes
-use Rattle.rehearsal.specs.Worlds.{switch_keys, controller_keys, bytes_of}
+use Rattle.rehearsal.specs.Worlds.{switch_keys, controller_keys, longest_share, bytes_of}
 use Rattle.rehearsal.specs.Records.{size_of, record_at}
-use Rattle.rehearsal.specs.Steps.{share_made, reported}
+use Rattle.rehearsal.specs.Steps.{share_made, answer_of, share_of, reported}
 use Rattle.rehearsal.specs.Effects.{no_switch, place_of, switch_of, record_questions}
 use Rattle.rehearsal.specs.Deeds.{share_in, drops, arrived, carried_but, wish_in, plain_deed, broken_deed, begun_deed}
 use Rattle.rehearsal.specs.Deeds.{controller_in, switch_in, moved_in, deed_in, world_but, Tale, next_deeds, deeds_from}
 use Rattle.rehearsal.specs.declared.Deed.{Deed}
-use Rattle.rehearsal.specs.declared.Dropped.{Dropped}
 use Rattle.rehearsal.specs.declared.Kind.{Kind}
 use Rattle.rehearsal.specs.declared.Kind.TheVariants.{Decide, Send, Report, Raw, Keep, Deliver}
-use Rattle.rehearsal.specs.declared.Made.{Made}
-use Rattle.rehearsal.specs.declared.Next.{Next}
-use Rattle.rehearsal.specs.declared.Next.TheVariants.{Found, Refused}
 use Rattle.rehearsal.specs.declared.Place.{Place}
 use Rattle.rehearsal.specs.declared.Record.{Record}
+use Rattle.rehearsal.specs.declared.Share as made
 use Rattle.rehearsal.specs.declared.World.{World}
 
 -- a switch s becomes t: whether the rule of a share was applied
@@ -74,23 +72,28 @@ reception {s} {keys} {bytes} (switch-takes.made a y enough) =
     rw (share-read bytes a.read) (applies a.passes.formed refl refl)
 
 -- a share on its way, which may have been refused when it was made, or be dropped
-arrival : (d : Dropped) (n : ℕ) (s : Switch) (to : ℕ) (m : Made) → (m.answer ≡ 1 → ⊥)
-    → Does (wish_in (bytes_of m.share)).slot s (eqb (arrived d n s to m).answer 1) (arrived d n s to m).state
+arrival : (d : Option ℕ) (n : ℕ) (s : Switch) (to : ℕ) (m : Result made.Share ℕ) → (answer_of m ≡ 1 → ⊥)
+    → Does (wish_in (bytes_of (share_of m))).slot s (eqb (arrived d n s to m).answer 1) (arrived d n s to m).state
 unfolding arrived reply
-arrival d n s to m other =
-    let bytes = bytes_of m.share in
-    by_bool (eqb m.answer 0)
-    (λ made. rw made
-    (by_bool (drops d bytes) (λ gone. rw gone (leaves refl refl))
-    (λ there. rw there (reception (switch-takes.received s (switch_keys n to) bytes)))))
-    (λ none. rw none (other_leaves _ s m.answer other refl refl))
+arrival d n s to (Ok share) other =
+    let bytes = bytes_of share in
+    by_bool (drops d bytes) (λ gone. rw gone (leaves refl refl))
+    (λ there. rw there (reception (switch-takes.received s (switch_keys n to) bytes)))
+arrival d n s to (Err k) other = other_leaves _ s k other refl refl
 
 -- no other step is answered 1: a share made
-made_other : (c : Controller) (from to : ℕ) → (share_made c from to).answer ≡ 1 → ⊥
-unfolding share_made share_written
-made_other c from to =
+refused_other : (c : Controller) (from to : ℕ)
+    → (share_written c (controller_keys from) to (replicate longest_share 0) 0).0.answer ≡ 1 → ⊥
+unfolding share_written
+refused_other c from to =
     reply-from (λ (r : controller.Reply × List ℕ). r.0.answer ≡ 1 → ⊥) 10 _ _ _ refl (λ k h e. omega arith)
     (λ y e. omega arith)
+
+made_other : (c : Controller) (from to : ℕ) → answer_of (share_made c from to) ≡ 1 → ⊥
+unfolding share_made
+made_other c from to =
+    let k = (share_written c (controller_keys from) to (replicate longest_share 0) 0).0.answer in
+    by_bool (eqb k 0) (λ there. rw there (λ e. omega arith)) (λ none. rw none (refused_other c from to))
 
 -- a decision
 decided_other : {c : Controller} {s serial cause : ℕ} {r : controller.Reply} → Decided c s serial cause r
@@ -123,11 +126,11 @@ reported_other n s c from to =
     (λ none. rw none (written_other s (switch_keys n from) to frame 0))
 
 -- every kind of record
-record_does : (d : Dropped) (c : Controller) (s : Switch) (p : Place) (n : ℕ) (kind : Kind) (r : Record)
+record_does : (d : Option ℕ) (c : Controller) (s : Switch) (p : Place) (n : ℕ) (kind : Kind) (r : Record)
     (bytes : List ℕ)
     → let made = share_in c p kind r bytes in
     let moved = carried_but d c s p n kind r made in
-    Does (wish_in (bytes_of made.share)).slot s (eqb moved.answer 1) moved.switch
+    Does (wish_in (bytes_of (share_of made))).slot s (eqb moved.answer 1) moved.switch
 unfolding carried_but share_in
 record_does d c s p n Decide r bytes =
     other_leaves _ s _ (decided_other (decision c r.switch r.serial r.cause)) refl refl
@@ -167,7 +170,7 @@ world_left w x other =
     record { switches = refl; does = λ s there. rw (ne_eqb x.answer 1 other) (leaves refl refl) }
 
 -- a record that passed its questions
-record_between : (d : Dropped) (w : World) (r : Record) (bytes : List ℕ)
+record_between : (d : Option ℕ) (w : World) (r : Record) (bytes : List ℕ)
     → Between w (deed_in d w r bytes) (world_but d w r bytes)
 unfolding begun_deed
 record_between d w r bytes =
@@ -181,25 +184,25 @@ record_between d w r bytes =
     }
 
 -- bytes that are no record are refused with a question's number
-abbrev Asked : Next → Type 0
-Asked (Refused q) = q ≡ 1 → ⊥
-Asked (Found r) = Unit {0}
+abbrev Asked : Result Record ℕ → Type 0
+Asked (Err q) = q ≡ 1 → ⊥
+Asked (Ok r) = Unit {0}
 
 read_asked : (b : List ℕ) → Asked (record_at b)
 unfolding record_at
 read_asked b = reply-from Asked 10 _ _ _ refl (λ k h e. omega arith) (λ y. tt)
 
 -- what holds of no deeds, and of deeds with one more in front, holds of a script
-module _ (d : Dropped) (P : World → List Deed → World → Type 0) (none : (w : World) → P w [] w)
+module _ (d : Option ℕ) (P : World → List Deed → World → Type 0) (none : (w : World) → P w [] w)
     (more : (w v u : World) (x : Deed) (xs : List Deed) → Between w x v → P v xs u → P w (x ∷ xs) u) where
   abbrev Keeps : World → Tale → Type 0
   Keeps w t = P w t.0 t.1
 
-  next_keep : (w : World) (r : Next) (b : List ℕ) (tells : ℕ → World → Tale) → Asked r
+  next_keep : (w : World) (r : Result Record ℕ) (b : List ℕ) (tells : ℕ → World → Tale) → Asked r
       → ((skip : ℕ) (next : World) → Keeps next (tells skip next)) → Keeps w (next_deeds d w r b tells)
   unfolding plain_deed
-  next_keep w (Refused q) b tells other rest = more w w w (broken_deed q) [] (world_left w (broken_deed q) other) (none w)
-  next_keep w (Found r) b tells other rest =
+  next_keep w (Err q) b tells other rest = more w w w (broken_deed q) [] (world_left w (broken_deed q) other) (none w)
+  next_keep w (Ok r) b tells other rest =
       let bytes = take (size_of r.kind) b in
       let skip = size_of r.kind - 1 in
       let to = switch_of r.kind r (place_of w r) in

@@ -7,6 +7,7 @@ use borrow.Author.Tests.{ne_eqb}
 use lib.Dec.{eqb}
 use lib.ListN.{length, take, drop, get_or, replicate}
 use lib.Seq.{take_all, take-append-le}
+use Rattle.std.specs.Prelude.{Ok, Err}
 use Rattle.answer.specs.Ask.{pick}
 use Rattle.answer.proofs.Bools.{by_le}
 use Rattle.lists.specs.Arrays.{pad}
@@ -24,7 +25,7 @@ use Rattle.controller.specs.Writing.{share_written}
 use Rattle.controller.specs.declared.Reply as controller
 use Rattle.controller.specs.declared.Controller.{Controller}
 use Rattle.controller.proofs.Sent.{frame_is}
-use Rattle.rehearsal.specs.Worlds.{switch_keys, controller_keys, longest_share, stored}
+use Rattle.rehearsal.specs.Worlds.{switch_keys, controller_keys, longest_share}
 use Rattle.rehearsal.specs.Steps.{delivered, share_made, reported}
 use Rattle.rehearsal.proofs.Shares.{current_share, writing, written-length}
 
@@ -60,7 +61,7 @@ pub delivered_by : (n to : ℕ) (s : Switch) (bytes : List ℕ) {keys : List ℕ
 delivered_by n to s bytes few e h = rw (← lent n to _ few e) h
 
 -- bytes written to the front of an array of zeros
-padded : (n : ℕ) (bytes : List ℕ) → length bytes ≤ n → bytes ++ drop (length bytes) (replicate n 0) ≡ pad n 0 bytes
+pub padded : (n : ℕ) (bytes : List ℕ) → length bytes ≤ n → bytes ++ drop (length bytes) (replicate n 0) ≡ pad n 0 bytes
 unfolding pad
 padded zero [] h = refl
 padded zero (x ∷ bytes) h = absurd (omega arith)
@@ -82,7 +83,7 @@ module _ (c : Controller) (from to : ℕ) {keys : List ℕ} {r : controller.Repl
   same_answer : r.answer ≡ (writing c from to).0.answer
   same_answer = ap (λ (w : controller.Reply × List ℕ). w.0.answer) same
 
-  pub share-refused : (r.answer ≡ 0 → ⊥) → record { answer = r.answer; share = stored [] } ≡ share_made c from to
+  pub share-refused : (r.answer ≡ 0 → ⊥) → Err r.answer ≡ share_made c from to
   unfolding share_made
   share-refused refused = rw (← same_answer, ne_eqb r.answer 0 refused)
 
@@ -96,7 +97,7 @@ module _ (c : Controller) (from to : ℕ) {keys : List ℕ} {r : controller.Repl
         ∙ frame_is c (controller_keys from) to (replicate longest_share 0) 0 answered
         ∙ in_front longest_share (current_share c from to) (omega (arith, written-length c from to answered))
 
-    pub share-made : record { answer = 0; share = record { bytes = frame; length = share_length } } ≡ share_made c from to
+    pub share-made : Ok (record { bytes = frame; length = share_length }) ≡ share_made c from to
     unfolding share_made
     share-made = rw (answered, frame_stored, written-length c from to answered)
 

@@ -1,17 +1,17 @@
 -- A record alters nothing but what it is about: decide and report one controller, send, raw and deliver one switch,
 -- keep one place, and a refused keep nothing. What a record does not name comes back as it was taken out.
 -- Assumes nothing.
-use mathlib.Core.Path.{◌≡◌}
+use mathlib.Core.Path.{◌≡◌, refl}
 use mathlib.Core.List.{List}
 use Prim.Native.Nat.{ℕ}
-use borrow.Author.Tests.{ne_eqb}
 use lib.Seq.{set-get_or}
-use Rattle.rehearsal.specs.Steps.{kept, carried_out}
+use Rattle.std.specs.Prelude.{Result, Ok, Err}
+use Rattle.rehearsal.specs.Steps.{answer_of, kept, carried_out}
 use Rattle.rehearsal.specs.Effects.{carried_in, world_after}
 use Rattle.rehearsal.specs.declared.Kind.TheVariants.{Decide, Send, Report, Raw, Keep, Deliver}
-use Rattle.rehearsal.specs.declared.Made.{Made}
 use Rattle.rehearsal.specs.declared.Place.{Place}
 use Rattle.rehearsal.specs.declared.Record.{Record}
+use Rattle.rehearsal.specs.declared.Share.{Share}
 use Rattle.rehearsal.specs.declared.World.{World}
 
 -- what stays of a world
@@ -25,8 +25,9 @@ abbrev pub OnlyPlace : World → World → Type 0
 OnlyPlace w v = (v.controllers ≡ w.controllers) × (v.switches ≡ w.switches)
 
 -- a share that was not made leaves the place as it was
-pub kept-refused : (m : Made) (to : ℕ) (p : Place) → (m.answer ≡ 0 → ⊥) → kept m to p ≡ p
-kept-refused m to p refused = rw (ne_eqb m.answer 0 refused)
+pub kept-refused : (m : Result Share ℕ) (to : ℕ) (p : Place) → (answer_of m ≡ 0 → ⊥) → kept m to p ≡ p
+kept-refused (Ok share) to p refused = absurd (refused refl)
+kept-refused (Err k) to p refused = refl
 
 module _ (w : World) (r : Record) (bytes : List ℕ) where
   pub decide_alters : r.kind ≡ Decide → OnlyController w (world_after w r bytes)
@@ -56,4 +57,4 @@ module _ (w : World) (r : Record) (bytes : List ℕ) where
 
   pub keep_refused : r.kind ≡ Keep → ((carried_in w r bytes).answer ≡ 0 → ⊥) → (world_after w r bytes).places ≡ w.places
   unfolding carried_out
-  keep_refused e refused = rw (e, ne_eqb _ 0 (rw e at refused), set-get_or)
+  keep_refused e refused = rw (e, kept-refused _ r.switch _ (rw e at refused), set-get_or)

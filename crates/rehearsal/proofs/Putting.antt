@@ -1,14 +1,16 @@
 -- What the functions that measure and put numbers and lines keep, turn by turn; for this crate's own functions.
 -- Assumes nothing.
-use mathlib.Core.Path.{◌≡◌, sym, ap, ap₂, ◌∙◌}
+use mathlib.Core.Path.{◌≡◌, refl, sym, ap, ap₂, ◌∙◌}
 use mathlib.Core.List.{List, [], ◌∷◌, ◌++◌, append_assoc}
 use Prim.Native.Nat.{ℕ, suc, ◌+◌, ◌-◌, ◌*◌, ◌≤◌, ◌<◌}
 use native.Mathlib.Omega.{arith}
 use lib.ListN.{length, get_or, take, drop, set, length-append, length-take, length-drop, drop_of_length-le}
-use lib.Seq.{sets, length-sets, sets-eq, take_all, get_or-drop}
+use lib.Seq.{sets, sets-eq, take_all}
 use borrow.Author.Tests.{le-leb, lt-leb}
 use Rattle.answer.proofs.Asked.{none_asked, refused, asked}
-use Rattle.lists.proofs.Runs.{sets_append, sets_turn}
+use borrow.Rule.Slice.PartMut.{put_mid}
+use Rattle.std.proofs.lemmas.Slice.{put_mid-paste}
+use Rattle.lists.proofs.Runs.{sets_append}
 use Rattle.lists.proofs.Stores.{rest}
 use Rattle.rehearsal.specs.Lines.{digits, stripped, decimal, text_of, text, printed}
 use Rattle.rehearsal.specs.declared.Line.{Line}
@@ -38,20 +40,25 @@ width_after x zeros {d} e f =
     let left : length (drop zeros d) ≡ 10 - zeros = length-drop zeros d ∙ ap (λ (n : ℕ). n - zeros) long in
     sym left ∙ ap length (f ∙ ap stripped e)
 
--- a turn of the loop that puts the digits after the zeros into an output, and the byte after the last of them
-module _ (out : List ℕ) (at x i : ℕ) {m : List ℕ} (stored : m ≡ sets out at (take i (decimal x))) where
-  pub digit_stored : (zeros : ℕ) {d : List ℕ} → d ≡ digits 10 x → drop zeros d ≡ stripped d → i < length (decimal x)
-      → set m (at + i) (get_or d (zeros + i) 0) ≡ sets out at (take (i + 1) (decimal x))
-  digit_stored zeros {d} e f h =
-      let same : get_or (decimal x) i 0 ≡ get_or d (zeros + i) 0 =
-      ap (λ (l : List ℕ). get_or l i 0) (sym (f ∙ ap stripped e)) ∙ get_or-drop zeros d i 0 in
-      rw (← same) (sets_turn out (decimal x) at i 0 h stored)
-
-  pub end_stored : (n end : ℕ) → n ≡ length (decimal x) → i ≡ n
-      → set m (at + n) end ≡ sets out at (decimal x ++ end ∷ [])
-  end_stored n end e f =
-      let whole : m ≡ sets out at (decimal x) = stored ∙ ap (sets out at) (take_all i (decimal x) (omega arith)) in
-      rw (sets_append, whole, e)
+-- the digits after the zeros put into an output, and the byte after the last of them
+pub number_put : (out : List ℕ) (at x end zeros : ℕ) {d ys : List ℕ} → d ≡ digits 10 x → drop zeros d ≡ stripped d
+    → zeros ≤ 9 → ys ≡ take (10 - zeros) (drop zeros d) → at + length (decimal x) < length out
+    → (at + 10 - zeros + 1 ≡ at + length (decimal x) + 1)
+    × (set (put_mid at (at + 10 - zeros - at) out ys) (at + 10 - zeros) end ≡ sets out at (decimal x ++ end ∷ []))
+number_put out at x end zeros {d} {ys} e f few g room =
+    let width : 10 - zeros ≡ length (decimal x) = width_after x zeros e f in
+    let ten : length d ≡ 10 = ap length e ∙ length_digits 10 x in
+    let all : take (10 - zeros) (drop zeros d) ≡ drop zeros d =
+    take_all (10 - zeros) (drop zeros d) (omega (arith, length-drop zeros d)) in
+    let is : ys ≡ decimal x = g ∙ all ∙ f ∙ ap stripped e in
+    let here : at + 10 - zeros ≡ at + length (decimal x) = omega arith in
+    let long : at + 10 - zeros - at ≡ length (decimal x) = omega arith in
+    let stored : put_mid at (length (decimal x)) out (decimal x) ≡ sets out at (decimal x) =
+    put_mid-paste at (length (decimal x)) out (decimal x) (decimal x) (length (decimal x)) refl refl refl
+    ∙ ap (λ (l : List ℕ). take at out ++ l ++ drop (at + length (decimal x)) out)
+    (take_all (length (decimal x)) (decimal x) (omega arith))
+    ∙ sym (sets-eq (decimal x) out at (omega arith)) in
+    (omega arith, rw (is, long, here, stored) (sym (sets_append out at (decimal x) (end ∷ []))))
 
 -- the length of the first lines and one more
 pub sum_fits : (ls : List Line) (i : ℕ) (l : Line) {n w : ℕ} → n ≡ length (text (take i ls)) → w ≡ length (text_of l)
@@ -85,32 +92,16 @@ after out at x end others {next} {m} e =
     ∙ ap₂ (λ (k : List ℕ) (i : ℕ). sets k i others) (sym e.1) here
 
 -- the three numbers of a line, one after another
-module _ (out : List ℕ) (at : ℕ) (l : Line) (fits : at + length (text_of l) ≤ length out) where
-  pub ordinal_room : at + length (decimal l.ordinal) < length out
-  ordinal_room = omega (arith, line_length l)
-
-  module _ {p : ℕ} {m : List ℕ} (e : Ended out at l.ordinal 32 p m) where
-    same_length : length m ≡ length out
-    same_length = ap length e.1 ∙ simp length-sets
-
-    pub answer_room : p + length (decimal l.answer) < length m
-    answer_room = omega (arith, line_length l, same_length)
-
-    module _ {q : ℕ} {k : List ℕ} (f : Ended m p l.answer 32 q k) where
-      pub figure_room : q + length (decimal l.figure) < length k
-      figure_room =
-          let long : length k ≡ length m = ap length f.1 ∙ simp length-sets in
-          omega (arith, line_length l, same_length)
-
-      pub line_stored : {r : ℕ} {j : List ℕ} → Ended k q l.figure 10 r j
-          → (r ≡ at + length (text_of l)) × (j ≡ sets out at (text_of l))
-      line_stored g =
-          let figure = decimal l.figure ++ 10 ∷ [] in
-          let answer = decimal l.answer ++ (32 ∷ figure) in
-          let whole : text_of l ≡ decimal l.ordinal ++ (32 ∷ answer) = simp append_assoc in
-          let stored : sets out at (decimal l.ordinal ++ (32 ∷ answer)) ≡ sets k q figure =
-          after out at l.ordinal 32 answer e ∙ after m p l.answer 32 figure f in
-          (omega (arith, line_length l), g.1 ∙ sym (ap (sets out at) whole ∙ stored))
+pub line_stored : (out : List ℕ) (at : ℕ) (l : Line) {p q r : ℕ} {m k j : List ℕ} → Ended out at l.ordinal 32 p m
+    → Ended m p l.answer 32 q k → Ended k q l.figure 10 r j
+    → (r ≡ at + length (text_of l)) × (j ≡ sets out at (text_of l))
+line_stored out at l {p} {q} {r} {m} {k} {j} e f g =
+    let figure = decimal l.figure ++ 10 ∷ [] in
+    let answer = decimal l.answer ++ (32 ∷ figure) in
+    let whole : text_of l ≡ decimal l.ordinal ++ (32 ∷ answer) = simp append_assoc in
+    let stored : sets out at (decimal l.ordinal ++ (32 ∷ answer)) ≡ sets k q figure =
+    after out at l.ordinal 32 answer e ∙ after m p l.answer 32 figure f in
+    (omega (arith, line_length l), g.1 ∙ sym (ap (sets out at) whole ∙ stored))
 
 -- what printing replies, by whether the bytes fit
 module _ (bytes out : List ℕ) where

@@ -7,6 +7,7 @@ use native.Mathlib.Omega.{arith}
 use borrow.Author.Tests.{leb-true, le-leb}
 use lib.Dec.{leb}
 use lib.ListN.{length, take, drop}
+use Rattle.std.specs.Prelude.{Result, Ok, Err}
 use Rattle.answer.specs.Ask.{reply}
 use Rattle.answer.proofs.Asked.{reply-keeps, none_asked, refused, asked}
 use Rattle.answer.proofs.Bools.{by_bool}
@@ -21,9 +22,8 @@ use Rattle.rehearsal.specs.Scripts.{next_lines, lines_from}
 use Rattle.rehearsal.specs.Scripts.{controllers_in, book_in, script_in, lines_of, rehearsed}
 use Rattle.rehearsal.specs.Storing.{no_line, lines_stored}
 use Rattle.rehearsal.specs.declared.Line.{Line}
-use Rattle.rehearsal.specs.declared.Next.{Next}
-use Rattle.rehearsal.specs.declared.Next.TheVariants.{Found, Refused}
 use Rattle.rehearsal.specs.declared.Printed.{Printed}
+use Rattle.rehearsal.specs.declared.Record.{Record}
 use Rattle.rehearsal.specs.declared.World.{World}
 use Rattle.rehearsal.proofs.Texts.{text_short}
 use Rattle.rehearsal.proofs.Turns.{Whole, whole, two_or_more}
@@ -32,10 +32,10 @@ use Rattle.rehearsal.proofs.Turns.{Whole, whole, two_or_more}
 abbrev Few : ℕ → List Line → Type 0
 Few n ls = 2 * length ls ≤ n + 1
 
-next-few : (w : World) (k : ℕ) (r : Next) (b : List ℕ) (on : ℕ → World → List Line) → 1 ≤ length b → Whole b r
+next-few : (w : World) (k : ℕ) (r : Result Record ℕ) (b : List ℕ) (on : ℕ → World → List Line) → 1 ≤ length b → Whole b r
     → ((skip : ℕ) (next : World) → Few (length b - 1 - skip) (on skip next)) → Few (length b) (next_lines w k r b on)
-next-few w k (Refused q) b on some fits few = omega arith
-next-few w k (Found r) b on some fits few =
+next-few w k (Err q) b on some fits few = omega arith
+next-few w k (Ok r) b on some fits few =
     let two = two_or_more r.kind in
     reply-keeps (Few (length b)) (record_questions w.n r (place_of w r)) _ _
     (λ q. omega (arith, few (size_of r.kind - 1) w)) (λ pass.

@@ -7,7 +7,8 @@ use Prim.Native.Nat.{ℕ, zero, suc, ◌+◌, ◌-◌, ◌≤◌, ◌<◌}
 use native.Mathlib.Omega.{arith}
 use borrow.Author.Tests.{leb-true, eq-eqb, ne_eqb}
 use lib.ListN.{length, take, drop, get_or, set, replicate, length-take, length-drop}
-use lib.Seq.{take_all, length-take-le, get_or-take}
+use lib.Seq.{take_all}
+use Rattle.std.specs.Prelude.{None, Result, Ok, Err}
 use Rattle.answer.specs.Ask.{Question, reply}
 use Rattle.answer.proofs.Asked.{reply_ap}
 use Rattle.lists.specs.Arrays.{pad}
@@ -25,13 +26,10 @@ use Rattle.rehearsal.specs.Deeds.{share_in, drops, arrived, carried_but, plain_d
 use Rattle.rehearsal.specs.Deeds.{Tale, next_deeds, deeds_from, told_by, told_of}
 use Rattle.rehearsal.specs.Deeds.{deed_lines, lines_told}
 use Rattle.rehearsal.specs.declared.Deed.{Deed}
-use Rattle.rehearsal.specs.declared.Dropped.TheVariants.{Nobody}
 use Rattle.rehearsal.specs.declared.Kind.{Kind}
 use Rattle.rehearsal.specs.declared.Kind.TheVariants.{Decide, Send, Report, Raw, Keep, Deliver}
 use Rattle.rehearsal.specs.declared.Line.{Line}
 use Rattle.rehearsal.specs.declared.Moved.{Moved}
-use Rattle.rehearsal.specs.declared.Next.{Next}
-use Rattle.rehearsal.specs.declared.Next.TheVariants.{Found, Refused}
 use Rattle.rehearsal.specs.declared.Place.{Place}
 use Rattle.rehearsal.specs.declared.Record.{Record}
 use Rattle.rehearsal.specs.declared.Told.{Told}
@@ -43,7 +41,7 @@ use Rattle.rehearsal.proofs.Shares.{stored_bytes}
 -- where nobody's shares are dropped, a record with its share does what it does
 pub nobody_dropped : (c : Controller) (s : Switch) (p : Place) (n : ℕ) (kind : Kind) (r : Record) (bytes : List ℕ)
     → length bytes ≤ size_of kind
-    → carried_but Nobody c s p n kind r (share_in c p kind r bytes) ≡ carried_out c s p n kind r bytes
+    → carried_but None c s p n kind r (share_in c p kind r bytes) ≡ carried_out c s p n kind r bytes
 unfolding carried_but share_in arrived drops carried_out sent reply
 nobody_dropped c s p n Decide r bytes h = refl
 nobody_dropped c s p n Send r bytes h = refl
@@ -55,7 +53,7 @@ nobody_dropped c s p n Keep r bytes h = refl
 nobody_dropped c s p n Deliver r bytes h = refl
 
 moved_same : (w : World) (r : Record) (b : List ℕ)
-    → moved_in Nobody w r (take (size_of r.kind) b) ≡ carried_in w r (take (size_of r.kind) b)
+    → moved_in None w r (take (size_of r.kind) b) ≡ carried_in w r (take (size_of r.kind) b)
 moved_same w r b =
     nobody_dropped _ _ (place_of w r) w.n r.kind r (take (size_of r.kind) b)
     (omega (arith, length-take (size_of r.kind) b))
@@ -69,12 +67,12 @@ both_reply ((k, true) ∷ qs) f g x y same e = both_reply qs f g x y same e
 both_reply ((k, false) ∷ qs) f g x y same e = same k
 
 -- the lines of what stands at the front of a script
-next-same : (w : World) (k : ℕ) (r : Next) (b : List ℕ) (on : ℕ → World → List Line) (tells : ℕ → World → Tale)
+next-same : (w : World) (k : ℕ) (r : Result Record ℕ) (b : List ℕ) (on : ℕ → World → List Line) (tells : ℕ → World → Tale)
     → ((skip : ℕ) (next : World) → on skip next ≡ deed_lines (k + 1) (tells skip next).0)
-    → next_lines w k r b on ≡ deed_lines k (next_deeds Nobody w r b tells).0
+    → next_lines w k r b on ≡ deed_lines k (next_deeds None w r b tells).0
 unfolding deed_lines plain_deed begun_deed
-next-same w k (Refused q) b on tells same = refl
-next-same w k (Found r) b on tells same =
+next-same w k (Err q) b on tells same = refl
+next-same w k (Ok r) b on tells same =
     let bytes = take (size_of r.kind) b in
     let skip = size_of r.kind - 1 in
     let moved = moved_same w r b in
@@ -88,17 +86,17 @@ next-same w k (Found r) b on tells same =
     (same skip (world_after w r bytes))) in
     both_reply qs _ _ _ _
     (λ q. ap (λ (ls : List Line). line_of k q 0 ∷ ls) (same skip w))
-    (told (moved_in Nobody w r bytes) moved)
+    (told (moved_in None w r bytes) moved)
     ∙ sym (reply_ap (λ (t : Tale). deed_lines k t.0) qs _ _)
 
 pub deeds_same : (skip : ℕ) (s : List ℕ) (k : ℕ) (w : World)
-    → lines_from skip s k w ≡ deed_lines k (deeds_from Nobody skip s w).0
+    → lines_from skip s k w ≡ deed_lines k (deeds_from None skip s w).0
 unfolding lines_from deeds_from deed_lines
 deeds_same skip [] k w = refl
 deeds_same (suc skip) (x ∷ s) k w = deeds_same skip s k w
 deeds_same zero (x ∷ s) k w =
     next-same w k (record_at (x ∷ s)) (x ∷ s) (λ skip next. lines_from skip s (k + 1) next)
-    (λ skip next. deeds_from Nobody skip s next) (λ skip next. deeds_same skip s (k + 1) next)
+    (λ skip next. deeds_from None skip s next) (λ skip next. deeds_same skip s (k + 1) next)
 
 -- a line for each deed
 deed_lines_lem : (k : ℕ) (xs : List Deed) → length (deed_lines k xs) ≡ length xs
@@ -118,20 +116,20 @@ line_at k (y ∷ xs) (suc i) x z h =
     line_at (k + 1) xs i x z (omega arith)
     ∙ ap (λ (j : ℕ). line_of j (get_or xs i x).answer (get_or xs i x).figure) e
 
-few_deeds : (s : List ℕ) (w : World) → length s ≤ 8192 → length (deeds_from Nobody 0 s w).0 ≤ 4096
+few_deeds : (s : List ℕ) (w : World) → length s ≤ 8192 → length (deeds_from None 0 s w).0 ≤ 4096
 few_deeds s w h =
-    let n = sym (deed_lines_lem 1 (deeds_from Nobody 0 s w).0) ∙ ap length (sym (deeds_same 0 s 1 w)) in
+    let n = sym (deed_lines_lem 1 (deeds_from None 0 s w).0) ∙ ap length (sym (deeds_same 0 s 1 w)) in
     omega (arith, lines_few 0 s 1 w)
 
 -- what is told of an input, beside its lines
 lines_of_deeds : (s : List ℕ) (w : World) → length s ≤ 8192
-    → lines_told (told_by 0 (deeds_from Nobody 0 s w)) ≡ lines_from 0 s 1 w
+    → lines_told (told_by 0 (deeds_from None 0 s w)) ≡ lines_from 0 s 1 w
 unfolding lines_told
 lines_of_deeds s w h =
-    let ds = (deeds_from Nobody 0 s w).0 in
+    let ds = (deeds_from None 0 s w).0 in
     ap (deed_lines 1) (pad-take 4096 (broken_deed 0) ds (few_deeds s w h)) ∙ sym (deeds_same 0 s 1 w)
 
-pub told_lines : (input : List ℕ) → lines_told (told_of Nobody input) ≡ lines_of input
+pub told_lines : (input : List ℕ) → lines_told (told_of None input) ≡ lines_of input
 unfolding told_of lines_of lines_told
 told_lines input =
     beside (λ (t : Told) (ls : List Line). lines_told t ≡ ls) input _ _ _ _ (λ k other. rw (ne_eqb k 0 other))
@@ -141,9 +139,9 @@ told_lines input =
 -- the two cases of what is told: a refused input and no deed, or the script's deeds, which have room, and the world
 -- after the last
 pub told_cases : {C : Type 0} (input : List ℕ)
-    → ((q : ℕ) → (q ≡ 0 → ⊥) → told_of Nobody input ≡ told_by q ([], world_of 0 (store_of no_plans)) → C)
-    → (told_of Nobody input ≡ told_by 0 (deeds_from Nobody 0 (script_in input) (world_in input))
-    → length (deeds_from Nobody 0 (script_in input) (world_in input)).0 ≤ 4096 → C)
+    → ((q : ℕ) → (q ≡ 0 → ⊥) → told_of None input ≡ told_by q ([], world_of 0 (store_of no_plans)) → C)
+    → (told_of None input ≡ told_by 0 (deeds_from None 0 (script_in input) (world_in input))
+    → length (deeds_from None 0 (script_in input) (world_in input)).0 ≤ 4096 → C)
     → C
 unfolding told_of
 told_cases {C} input =
@@ -151,18 +149,18 @@ told_cases {C} input =
     let world = world_in input in
     beside
     (λ (t : Told) (k : ℕ). ((q : ℕ) → (q ≡ 0 → ⊥) → t ≡ told_by q ([], world_of 0 (store_of no_plans)) → C)
-    → (t ≡ told_by 0 (deeds_from Nobody 0 script world) → length (deeds_from Nobody 0 script world).0 ≤ 4096 → C) → C)
+    → (t ≡ told_by 0 (deeds_from None 0 script world) → length (deeds_from None 0 script world).0 ≤ 4096 → C) → C)
     input _ _ (λ k. k) 0 (λ k other refuses tells. refuses k other refl)
     (λ some few short refuses tells. tells refl (few_deeds script world (leb-true (length script) 8192 short)))
 
 -- there is a place for each deed
-pub told_room : (input : List ℕ) {t : Told} → t ≡ told_of Nobody input
+pub told_room : (input : List ℕ) {t : Told} → t ≡ told_of None input
     → (t.count ≤ 4096) × (t.count ≤ length t.deeds)
 told_room input e =
     rw e
     (told_cases input (λ q other is. rw is (omega arith, omega arith))
     (λ is fits.
-    let deeds = (deeds_from Nobody 0 (script_in input) (world_in input)).0 in
+    let deeds = (deeds_from None 0 (script_in input) (world_in input)).0 in
     rw is (fits, omega (arith, pad-length 4096 (broken_deed 0) deeds))))
 
 -- the lines of a fault, and of deeds
@@ -174,37 +172,31 @@ pub script_lines : (t : Told) → t.answer ≡ 0 → lines_told t ≡ deed_lines
 unfolding lines_told
 script_lines t e = rw (eq-eqb t.answer 0 e)
 
--- the loop that makes the lines: the first i stand in their places
-module _ (deeds : List Deed) (count : ℕ) where
+-- the loop that makes the lines of deeds: the first i stand in their places
+module _ (deeds : List Deed) where
   abbrev lines : List Line
-  lines = deed_lines 1 (take count deeds)
+  lines = deed_lines 1 deeds
 
   abbrev pub LinesBefore : ℕ → List Line → Type 0
-  LinesBefore i places = (i ≤ count) × (places ≡ pad 4096 no_line (take i lines))
+  LinesBefore i places = places ≡ pad 4096 no_line (take i lines)
 
   pub first_line : {places : List Line} → places ≡ replicate 4096 no_line → LinesBefore 0 places
-  first_line none = (omega arith, none ∙ sym (pad_none 4096 no_line))
+  first_line none = none ∙ sym (pad_none 4096 no_line)
 
-  module _ (all : count ≤ length deeds) (i : ℕ) {places : List Line} (before : LinesBefore i places) where
-    pub next_line : i < count → (x : Deed) {l : Line}
+  module _ (i : ℕ) {places : List Line} (before : LinesBefore i places) where
+    pub next_line : i < length deeds → (x : Deed) {l : Line}
         → l ≡ line_of (i + 1) (get_or deeds i x).answer (get_or deeds i x).figure
         → LinesBefore (i + 1) (set places i l)
     next_line h x {l} says =
-        let long : length (take count deeds) ≡ count = length-take-le count deeds all in
-        let is : l ≡ get_or lines i no_line =
-        says
-        ∙ sym (line_at 1 (take count deeds) i x no_line (omega arith)
-        ∙ ap (λ (y : Deed). line_of (i + 1) y.answer y.figure) (get_or-take count deeds i x h)) in (
-          omega arith,
-          rw (before.1, is) (pad-step 4096 no_line lines i no_line (omega (arith, deed_lines_lem 1 (take count deeds)))),
-        )
+        let is : l ≡ get_or lines i no_line = says ∙ sym (line_at 1 deeds i x no_line h) in
+        rw (before, is) (pad-step 4096 no_line lines i no_line (omega (arith, deed_lines_lem 1 deeds)))
 
-    pub last_line : count ≤ i → record { places = places; count = count } ≡ lines_stored lines
-    last_line h =
-        let long : length (take count deeds) ≡ count = length-take-le count deeds all in
-        let size : length lines ≡ count = deed_lines_lem 1 (take count deeds) ∙ long in
+    pub last_line : length deeds ≤ i → {n : ℕ} → n ≡ length deeds
+        → record { places = places; count = n } ≡ lines_stored lines
+    last_line h {n} e =
+        let size : length lines ≡ n = deed_lines_lem 1 deeds ∙ sym e in
         let whole : take i lines ≡ lines = take_all i lines (omega arith) in
-        rw (size, ← whole, ← before.1)
+        rw (size, ← whole, ← before)
 
 -- the one line of a fault
 pub one_line : (q : ℕ) {places : List Line} → places ≡ replicate 4096 no_line

@@ -7,32 +7,30 @@ use native.Mathlib.Numerals.{add-one}
 use native.Mathlib.Omega.{arith}
 use borrow.Author.Tests.{leb-true, ltb-true}
 use lib.Dec.{ltb}
-use lib.ListN.{length, take, drop, set, get_or, replicate, length-append, length-drop, length-set, drop_of_length-le}
+use lib.ListN.{length, take, drop, set, get_or, replicate, length-append, length-drop}
 use lib.Seq.{drop-drop, length-take-le, take-suc-set}
+use Rattle.std.specs.Prelude.{Option, Result, Ok, Err}
 use Rattle.answer.specs.Ask.{reply, first_no}
 use Rattle.answer.proofs.Bools.{and_parts}
-use Rattle.answer.proofs.Asked.{reply-keeps, answered, all_yes, some_no}
+use Rattle.answer.proofs.Asked.{reply-keeps, reply_ap, answered, all_yes, some_no}
 use Rattle.lists.specs.Arrays.{pad}
 use Rattle.lists.specs.Bytes.{byte_at}
 use Rattle.lists.proofs.Padding.{pad_none, pad_snoc, pad-length}
-use Rattle.lists.proofs.Stores.{rest}
 use Rattle.rehearsal.specs.Records.{is_kind, kind_of, size_of, record_of, reading_questions, record_at}
 use Rattle.switch.specs.declared.Switch.{Switch}
 use Rattle.controller.specs.declared.Controller.{Controller}
 use Rattle.rehearsal.specs.Effects.{no_switch, no_controller, place_of, switch_of, record_questions, with_ends}
 use Rattle.rehearsal.specs.Deeds.{share_in, carried_but, plain_deed, broken_deed, deed_by}
-use Rattle.rehearsal.specs.Deeds.{controller_in, switch_in, made_in, moved_in, deed_in, world_but}
-use Rattle.rehearsal.specs.Deeds.{Tale, first, next_deeds, deeds_from, told_by}
+use Rattle.rehearsal.specs.Deeds.{controller_in, switch_in, made_in, moved_in, deed_in}
+use Rattle.rehearsal.specs.Deeds.{Tale, first, record_deeds, next_deeds, deeds_from, told_by}
+use Rattle.rehearsal.specs.Storing.{turn_of}
 use Rattle.rehearsal.specs.declared.Deed.{Deed}
-use Rattle.rehearsal.specs.declared.Dropped.{Dropped}
 use Rattle.rehearsal.specs.declared.Kind.{Kind}
 use Rattle.rehearsal.specs.declared.Kind.TheVariants.{Decide, Send, Report, Raw, Keep, Deliver}
-use Rattle.rehearsal.specs.declared.Made.{Made}
 use Rattle.rehearsal.specs.declared.Moved.{Moved}
-use Rattle.rehearsal.specs.declared.Next.{Next}
-use Rattle.rehearsal.specs.declared.Next.TheVariants.{Found, Refused}
 use Rattle.rehearsal.specs.declared.Place.{Place}
 use Rattle.rehearsal.specs.declared.Record.{Record}
+use Rattle.rehearsal.specs.declared.Share.{Share}
 use Rattle.rehearsal.specs.declared.World.{World}
 use Rattle.rehearsal.proofs.Making.{get_d_any}
 
@@ -46,9 +44,9 @@ two_or_more Keep = omega arith
 two_or_more Deliver = omega arith
 
 -- a record that is found is whole
-abbrev pub Whole : List ℕ → Next → Type 0
-Whole b (Found r) = size_of r.kind ≤ length b
-Whole b (Refused k) = Unit {0}
+abbrev pub Whole : List ℕ → Result Record ℕ → Type 0
+Whole b (Ok r) = size_of r.kind ≤ length b
+Whole b (Err k) = Unit {0}
 
 kind-kept : (kind : Kind) (b : List ℕ) → (record_of kind b).kind ≡ kind
 kind-kept Decide b = refl
@@ -70,54 +68,11 @@ pub whole : (b : List ℕ) → Whole b (record_at b)
 unfolding record_at
 whole b =
     let kind = kind_of (byte_at b 0) in
-    reply-keeps (Whole b) (reading_questions b) Refused (Found (record_of kind b)) (λ k. tt)
+    reply-keeps (Whole b) (reading_questions b) Err (Ok (record_of kind b)) (λ k. tt)
     (λ pass. rw (kind-kept kind b) (leb-true _ _ (last_yes (ltb 0 (length b)) (is_kind (byte_at b 0)) _ pass)))
 
-pub found_whole : (b : List ℕ) (r : Record) → record_at b ≡ Found r → size_of r.kind ≤ length b
+pub found_whole : (b : List ℕ) (r : Record) → record_at b ≡ Ok r → size_of r.kind ≤ length b
 found_whole b r e = rw e at (whole b)
-
-module _ (d : Dropped) where
-  -- bytes that are passed over
-  passed_over : (skip : ℕ) (s : List ℕ) (w : World) → deeds_from d skip s w ≡ deeds_from d 0 (drop skip s) w
-  unfolding deeds_from
-  passed_over zero s w = refl
-  passed_over (suc skip) [] w = refl
-  passed_over (suc skip) (x ∷ s) w = passed_over skip s w
-
-  -- the deeds of what stands at a place
-  deeds_at : (s : List ℕ) (at : ℕ) (w : World) → at < length s
-      → deeds_from d 0 (drop at s) w
-      ≡ next_deeds d w (record_at (drop at s)) (drop at s) (λ skip next. deeds_from d skip (drop (at + 1) s) next)
-  unfolding deeds_from
-  deeds_at s at w h = rw (rest s at 0 h)
-
-  -- behind a record of a kind
-  behind : (kind : Kind) (s : List ℕ) (at : ℕ) (w : World)
-      → deeds_from d (size_of kind - 1) (drop (at + 1) s) w ≡ deeds_from d 0 (drop (at + size_of kind) s) w
-  behind kind s at w =
-      let e : at + 1 + (size_of kind - 1) ≡ at + size_of kind = omega (arith, two_or_more kind) in
-      passed_over (size_of kind - 1) (drop (at + 1) s) w ∙ rw (drop-drop, e)
-
-  -- the deed of a record that is refused before anything is made or delivered, and of one that is carried out
-  module _ (s : List ℕ) (at : ℕ) (w : World) (r : Record) (here : at < length s)
-      (is : record_at (drop at s) ≡ Found r) where
-    refused_deeds : {q : ℕ} → q ≡ first_no (record_questions w.n r (place_of w r)) → (q ≡ 0 → ⊥)
-        → deeds_from d 0 (drop at s) w
-        ≡ first (plain_deed true r (switch_of r.kind r (place_of w r)) q)
-        (deeds_from d 0 (drop (at + size_of r.kind) s) w)
-    refused_deeds {q} e failed =
-        deeds_at s at w here
-        ∙ rw (is, e, ← behind r.kind s at w)
-        (some_no (record_questions w.n r (place_of w r)) _ _ (λ z. failed (e ∙ z)))
-
-    carried_deeds : first_no (record_questions w.n r (place_of w r)) ≡ 0
-        → let bytes = take (size_of r.kind) (drop at s) in
-        deeds_from d 0 (drop at s) w
-        ≡ first (deed_in d w r bytes) (deeds_from d 0 (drop (at + size_of r.kind) s) (world_but d w r bytes))
-    carried_deeds passed =
-        deeds_at s at w here
-        ∙ rw (is, ← behind r.kind s at (world_but d w r (take (size_of r.kind) (drop at s))))
-        (all_yes (record_questions w.n r (place_of w r)) _ _ refl passed)
 
 -- what a record that passed its questions names
 pub record Named (n : ℕ) (r : Record) (p : Place) : Type 0 where
@@ -134,31 +89,113 @@ named n r p passed =
       place = ltb-true _ _ (yes-to 29);
     }
 
+-- a record with its bytes in a world: one that is refused before anything is made or delivered, and one that is carried
+-- out
+module _ (d : Option ℕ) (w : World) (r : Record) (bytes : List ℕ) {p : Place} (there : p ≡ place_of w r) {j : ℕ}
+    (which : j ≡ switch_of r.kind r p) {l : Deed} where
+  pub refused_turn : {q : ℕ} → q ≡ first_no (record_questions w.n r p) → (q ≡ 0 → ⊥) → l ≡ plain_deed true r j q
+      → (l, w) ≡ turn_of d w r bytes
+  unfolding turn_of
+  refused_turn {q} asks failed says =
+      let asked : q ≡ first_no (record_questions w.n r (place_of w r)) = asks ∙ rw there in
+      ap (λ (x : Deed). (x, w)) (says ∙ rw (which, there, asked))
+      ∙ sym (some_no (record_questions w.n r (place_of w r)) _ _ (λ z. failed (asked ∙ z)))
+
+  -- c and t stand where a world has nothing: what a record names is there
+  pub carried_turn : first_no (record_questions w.n r p) ≡ 0 → w.n ≤ 16 → length w.switches ≡ 16
+      → length w.controllers ≡ 16 → (c : Controller) (t : Switch) {made : Result Share ℕ}
+      → made ≡ share_in (get_or w.controllers r.controller c) p r.kind r bytes → {m : Moved}
+      → m ≡ carried_but d (get_or w.controllers r.controller c) (get_or w.switches j t) p w.n r.kind r made
+      → l ≡ deed_by r j (get_or w.controllers r.controller c) (get_or w.switches j t) made m
+      → (l, with_ends w r.controller j r.place m) ≡ turn_of d w r bytes
+  unfolding turn_of
+  carried_turn passed few switches controllers c t {made} makes {m} does says =
+      let names = named w.n r p passed in
+      let its-controller : get_or w.controllers r.controller c ≡ controller_in w r =
+      get_d_any w.controllers r.controller c no_controller (omega (arith, names.controller)) in
+      let its-switch : get_or w.switches j t ≡ switch_in w r =
+      rw which (get_d_any w.switches (switch_of r.kind r p) t no_switch (omega (arith, names.switch)) ∙ rw there) in
+      let is_made_lem : made ≡ made_in w r bytes = makes ∙ rw (its-controller, there) in
+      let is-moved : m ≡ moved_in d w r bytes = does ∙ rw (is_made_lem, its-controller, its-switch, there) in
+      let is-deed : l ≡ deed_in d w r bytes =
+      says ∙ rw (is-moved, is_made_lem, its-controller, its-switch, which, there) in
+      rw (is-deed, is-moved, which, there)
+      (sym (all_yes (record_questions w.n r (place_of w r)) _ _ refl (rw (← there) passed)))
+
+-- a turn keeps the number of controllers
+pub turn_n : (d : Option ℕ) (w : World) (r : Record) (bytes : List ℕ) {l : Deed} {next : World}
+    → (l, next) ≡ turn_of d w r bytes → next.n ≡ w.n
+unfolding turn_of
+turn_n d w r bytes does =
+    ap (λ (t : Deed × World). t.1.n) does
+    ∙ reply-keeps (λ (t : Deed × World). t.1.n ≡ w.n) (record_questions w.n r (place_of w r)) _ _ (λ q. refl)
+    (λ pass. refl)
+
+module _ (d : Option ℕ) where
+  -- bytes that are passed over
+  passed_over : (skip : ℕ) (s : List ℕ) (w : World) → deeds_from d skip s w ≡ deeds_from d 0 (drop skip s) w
+  unfolding deeds_from
+  passed_over zero s w = refl
+  passed_over (suc skip) [] w = refl
+  passed_over (suc skip) (x ∷ s) w = passed_over skip s w
+
+  -- the deeds of what stands at the front of bytes
+  deeds_at : (rest : List ℕ) (w : World) → 0 < length rest
+      → deeds_from d 0 rest w
+      ≡ next_deeds d w (record_at rest) rest (λ skip next. deeds_from d skip (drop 1 rest) next)
+  unfolding deeds_from
+  deeds_at [] w h = absurd (omega arith)
+  deeds_at (x ∷ xs) w h = refl
+
+  -- behind a record of a kind
+  behind : (kind : Kind) (rest : List ℕ) (w : World)
+      → deeds_from d (size_of kind - 1) (drop 1 rest) w ≡ deeds_from d 0 (drop (size_of kind) rest) w
+  behind kind rest w =
+      let e : 1 + (size_of kind - 1) ≡ size_of kind = omega (arith, two_or_more kind) in
+      passed_over (size_of kind - 1) (drop 1 rest) w
+      ∙ ap (λ (s : List ℕ). deeds_from d 0 s w) (drop-drop (size_of kind - 1) 1 rest)
+      ∙ ap (λ (n : ℕ). deeds_from d 0 (drop n rest) w) e
+
+  record_told : (w : World) (r : Record) (bytes : List ℕ) (more : World → Tale)
+      → record_deeds d w r bytes more ≡ first (turn_of d w r bytes).0 (more (turn_of d w r bytes).1)
+  unfolding turn_of
+  record_told w r bytes more =
+      sym (reply_ap (λ (t : Deed × World). first t.0 (more t.1)) (record_questions w.n r (place_of w r)) _ _)
+
+  -- the deed of a record, and what is left to tell behind it
+  turned : (rest : List ℕ) (w : World) (r : Record) → 0 < length rest → record_at rest ≡ Ok r → {l : Deed}
+      {next : World} → (l, next) ≡ turn_of d w r (take (size_of r.kind) rest)
+      → deeds_from d 0 rest w ≡ first l (deeds_from d 0 (drop (size_of r.kind) rest) next)
+  turned rest w r here is {l} {next} does =
+      let bytes : List ℕ = take (size_of r.kind) rest in
+      deeds_at rest w here
+      ∙ rw is (record_told w r bytes (λ (v : World). deeds_from d (size_of r.kind - 1) (drop 1 rest) v))
+      ∙ ap (λ (t : Deed × World). first t.0 (deeds_from d (size_of r.kind - 1) (drop 1 rest) t.1)) (sym does)
+      ∙ ap (first l) (behind r.kind rest next)
+
 -- deeds in front of others
 abbrev joined : List Deed → Tale → Tale
 joined xs t = (xs ++ t.0, t.1)
 
 -- what the loop has told so far: `count` deeds stand in their places, and the others follow from the bytes that are
 -- left and the world as it is
-pub record SoFar (d : Dropped) (s : List ℕ) (before w : World) (places : List Deed) (count at : ℕ) : Type 0 where
-  pub within : at ≤ length s
-  pub few : 2 * count ≤ at
-  pub same-n : w.n ≡ before.n
-  pub switches : length w.switches ≡ 16
-  pub controllers : length w.controllers ≡ 16
-  pub padded : places ≡ pad 4096 (broken_deed 0) (take count places)
-  pub told : deeds_from d 0 s before ≡ joined (take count places) (deeds_from d 0 (drop at s) w)
+pub record SoFar (d : Option ℕ) (s : List ℕ) (before w : World) (places : List Deed) (count : ℕ) (rest : List ℕ) : Type 0
+  where
+    pub few : 2 * count + length rest ≤ length s
+    pub same-n : w.n ≡ before.n
+    pub padded : places ≡ pad 4096 (broken_deed 0) (take count places)
+    pub told : deeds_from d 0 s before ≡ joined (take count places) (deeds_from d 0 rest w)
 
-module _ (d : Dropped) (s : List ℕ) (before w : World) (places : List Deed) (count at : ℕ) (short : length s ≤ 8192)
-    (so_far : SoFar d s before w places count at) where
+module _ (d : Option ℕ) (s : List ℕ) (before w : World) (places : List Deed) (count : ℕ) (rest : List ℕ)
+    (short : length s ≤ 8192) (so_far : SoFar d s before w places count rest) where
   long : length places ≡ 4096
   long = ap length so_far.padded ∙ pad-length 4096 (broken_deed 0) (take count places)
 
   -- a deed is stored in the next place
-  stored : at < length s → (l : Deed) → take (count + 1) (set places count l) ≡ take count places ++ l ∷ []
+  stored : 0 < length rest → (l : Deed) → take (count + 1) (set places count l) ≡ take count places ++ l ∷ []
   stored h l = rw add-one (take-suc-set places count l (omega (arith, long, so_far.few)))
 
-  store_padded : at < length s → (l : Deed)
+  store_padded : 0 < length rest → (l : Deed)
       → set places count l ≡ pad 4096 (broken_deed 0) (take (count + 1) (set places count l))
   store_padded h l =
       let used : length (take count places) ≡ count = length-take-le count places (omega (arith, long, so_far.few)) in
@@ -168,69 +205,28 @@ module _ (d : Dropped) (s : List ℕ) (before w : World) (places : List Deed) (c
       ∙ ap (pad 4096 (broken_deed 0)) (sym (stored h l))
 
   -- a turn at a record: its deed is told, and the rest follows from the world after it
-  module _ (r : Record) (here : at < length s) (is : record_at (drop at s) ≡ Found r) {l : Deed} {size : ℕ}
-      (of_kind_lem : size ≡ size_of r.kind) where
-    turned : (next : World) → next.n ≡ w.n → length next.switches ≡ 16 → length next.controllers ≡ 16
-        → deeds_from d 0 (drop at s) w ≡ first l (deeds_from d 0 (drop (at + size_of r.kind) s) next)
-        → SoFar d s before next (set places count l) (count + 1) (at + size)
-    turned next n ss cs e =
-        let fits = found_whole (drop at s) r is in
-        let two = two_or_more r.kind in
-        let left = length-drop at s in
-        record {
-          within = omega arith;
-          few = omega (arith, so_far.few);
-          same-n = n ∙ so_far.same-n;
-          switches = ss;
-          controllers = cs;
-          padded = store_padded here l;
-          told = so_far.told ∙ after;
-        }
-      where
-        after : joined (take count places) (deeds_from d 0 (drop at s) w)
-            ≡ joined (take (count + 1) (set places count l)) (deeds_from d 0 (drop (at + size) s) next)
-        after =
-            let more = deeds_from d 0 (drop (at + size_of r.kind) s) next in
-            rw (e, stored here l, of_kind_lem)
-            (ap (λ (xs : List Deed). (xs, more.1)) (sym (append_assoc (take count places) (l ∷ []) more.0)))
-
-    pub refused_turn : {p : Place} → p ≡ place_of w r → {q : ℕ} → q ≡ first_no (record_questions w.n r p) → (q ≡ 0 → ⊥)
-        → {j : ℕ} → j ≡ switch_of r.kind r p → l ≡ plain_deed true r j q
-        → SoFar d s before w (set places count l) (count + 1) (at + size)
-    refused_turn there e failed which says =
-        turned w refl so_far.switches so_far.controllers
-        (refused_deeds d s at w r here is (e ∙ rw there) failed ∙ rw (says, which, there))
-
-    -- c and t stand where a world has nothing: what a record names is there
-    pub carried_turn : {p : Place} → p ≡ place_of w r → first_no (record_questions w.n r p) ≡ 0 → before.n ≤ 16
-        → (c : Controller) (t : Switch) {j : ℕ} → j ≡ switch_of r.kind r p → {made : Made}
-        → made
-        ≡ share_in (get_or w.controllers r.controller c) p r.kind r (take (at + size - at) (drop at s))
-        → {m : Moved}
-        → m
-        ≡ carried_but d (get_or w.controllers r.controller c) (get_or w.switches j t) p w.n r.kind r made
-        → l ≡ deed_by r j (get_or w.controllers r.controller c) (get_or w.switches j t) made m
-        → SoFar d s before (with_ends w r.controller j r.place m) (set places count l) (count + 1) (at + size)
-    carried_turn {p} there passed few c t {j} which {made} makes {m} does says =
-        let names = named w.n r p passed in
-        let same = so_far.same-n in
-        let bytes = take (size_of r.kind) (drop at s) in
-        let lent : at + size - at ≡ size_of r.kind = omega arith in
-        let its-controller : get_or w.controllers r.controller c ≡ controller_in w r =
-        get_d_any w.controllers r.controller c no_controller
-        (omega (arith, names.controller, so_far.controllers)) in
-        let its-switch : get_or w.switches j t ≡ switch_in w r =
-        rw which
-        (get_d_any w.switches (switch_of r.kind r p) t no_switch (omega (arith, names.switch, so_far.switches))
-        ∙ rw there) in
-        let is_made_lem : made ≡ made_in w r bytes = makes ∙ rw (lent, its-controller, there) in
-        let is-moved : m ≡ moved_in d w r bytes = does ∙ rw (is_made_lem, its-controller, its-switch, there) in
-        let is-deed : l ≡ deed_in d w r bytes =
-        says ∙ rw (is-moved, is_made_lem, its-controller, its-switch, which, there) in
-        turned (with_ends w r.controller j r.place m) refl
-        (length-set w.switches j m.switch ∙ so_far.switches)
-        (length-set w.controllers r.controller m.controller ∙ so_far.controllers)
-        (carried_deeds d s at w r here is (rw (← there) passed) ∙ rw (is-deed, is-moved, which, there))
+  pub next_turn : (r : Record) → 0 < length rest → record_at rest ≡ Ok r → {size : ℕ} → size ≡ size_of r.kind
+      → {bytes behind : List ℕ} → bytes ≡ take size rest → behind ≡ drop size rest → {l : Deed} {next : World}
+      → (l, next) ≡ turn_of d w r bytes → SoFar d s before next (set places count l) (count + 1) behind
+  next_turn r here is {size} sized {bytes} {behind} front back {l} {next} does =
+      let its : (l, next) ≡ turn_of d w r (take (size_of r.kind) rest) =
+      does ∙ ap (turn_of d w r) (front ∙ ap (λ (n : ℕ). take n rest) sized) in
+      let left : length behind ≡ length rest - size = ap length back ∙ length-drop size rest in
+      record {
+        few = omega (arith, so_far.few, left, sized, found_whole rest r is, two_or_more r.kind);
+        same-n = turn_n d w r bytes does ∙ so_far.same-n;
+        padded = store_padded here l;
+        told = so_far.told ∙ after its;
+      }
+    where
+      after : (l, next) ≡ turn_of d w r (take (size_of r.kind) rest)
+          → joined (take count places) (deeds_from d 0 rest w)
+          ≡ joined (take (count + 1) (set places count l)) (deeds_from d 0 behind next)
+      after its =
+          let more = deeds_from d 0 (drop (size_of r.kind) rest) next in
+          let lies : behind ≡ drop (size_of r.kind) rest = back ∙ ap (λ (n : ℕ). drop n rest) sized in
+          rw (turned d rest w r here is its, stored here l, lies)
+          (ap (λ (xs : List Deed). (xs, more.1)) (sym (append_assoc (take count places) (l ∷ []) more.0)))
 
   -- deeds that are all told stand in their array
   stored_all : (ds : List Deed) (last : World) (p : List Deed) (n : ℕ) → deeds_from d 0 s before ≡ (ds, last)
@@ -239,35 +235,36 @@ module _ (d : Dropped) (s : List ℕ) (before w : World) (places : List Deed) (c
   stored_all ds last p n e is k = rw (e, is, k)
 
   -- the run stops at a record that is refused
-  pub stops : at < length s → {q : ℕ} → record_at (drop at s) ≡ Refused q → {l : Deed} → l ≡ broken_deed q
+  pub stops : 0 < length rest → {q : ℕ} → record_at rest ≡ Err q → {l : Deed} → l ≡ broken_deed q
       → record { answer = 0; deeds = set places count l; count = count + 1; world = w }
       ≡ told_by 0 (deeds_from d 0 s before)
   stops h {q} e {l} says =
-      let last : deeds_from d 0 (drop at s) w ≡ (l ∷ [], w) = deeds_at d s at w h ∙ rw (e, says) in
+      let last : deeds_from d 0 rest w ≡ (l ∷ [], w) = deeds_at d rest w h ∙ rw (e, says) in
       let size : count + 1 ≡ length (take (count + 1) (set places count l)) =
       rw (stored h l, length-append, length-take-le count places (omega (arith, long, so_far.few))) in
       stored_all (take (count + 1) (set places count l)) w (set places count l) (count + 1)
       (so_far.told ∙ rw (last, stored h l)) (store_padded h l) size
 
   -- nothing is left
-  pub ends : length s ≤ at
+  pub ends : length rest ≡ 0
       → record { answer = 0; deeds = places; count = count; world = w } ≡ told_by 0 (deeds_from d 0 s before)
   unfolding deeds_from
   ends h =
-      let none : drop at s ≡ [] = drop_of_length-le s {i = at} (omega arith) in
+      let none : rest ≡ [] = nothing rest h in
       stored_all (take count places) w places count
       (so_far.told ∙ rw none (ap (λ (xs : List Deed). (xs, w)) (append-nil (take count places)))) so_far.padded
-      (sym (length-take-le count places (omega (arith, long, so_far.few, so_far.within))))
+      (sym (length-take-le count places (omega (arith, long, so_far.few))))
+    where
+      nothing : (l : List ℕ) → length l ≡ 0 → l ≡ []
+      nothing [] e = refl
+      nothing (x ∷ l) e = absurd (omega arith)
 
 -- before the first record
-pub starts : (d : Dropped) (s : List ℕ) (w : World) → length w.switches ≡ 16 → length w.controllers ≡ 16
-    → {places : List Deed} → places ≡ replicate 4096 (broken_deed 0) → SoFar d s w w places 0 0
-starts d s w ss cs none = record {
-  within = omega arith;
+pub starts : (d : Option ℕ) (s : List ℕ) (w : World) {places : List Deed} → places ≡ replicate 4096 (broken_deed 0)
+    → SoFar d s w w places 0 s
+starts d s w none = record {
   few = omega arith;
   same-n = refl;
-  switches = ss;
-  controllers = cs;
   padded = none ∙ sym (pad_none 4096 (broken_deed 0));
   told = refl;
 }

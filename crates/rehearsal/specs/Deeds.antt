@@ -2,6 +2,7 @@
 -- N9). What the lines mean is in Scripts.antt and rests on nothing here; where nobody's shares are dropped the deeds have
 -- these lines (`told_lines`, proofs/Telling.antt).
 use Rattle.std.specs.Prelude.{ℕ, zero, suc, ◌+◌, ◌-◌, Bool, true, false, not, ◌&&◌, List, [], ◌∷◌, length, take, drop, get_or, ltb, eqb}
+use Rattle.std.specs.Prelude.{Option, Some, None, Result, Ok, Err}
 use Rattle.std.specs.Int.Count.{ones}
 use Rattle.answer.specs.Ask.{pick, reply}
 use Rattle.lists.specs.Arrays.{pad}
@@ -25,20 +26,15 @@ use Rattle.controller.specs.declared.Undone.{Undone}
 use Rattle.rehearsal.specs.Limits.{most_lines}
 use Rattle.rehearsal.specs.Worlds.{stored, bytes_of, world_of}
 use Rattle.rehearsal.specs.Records.{size_of, naming, record_at}
-use Rattle.rehearsal.specs.Steps.{delivered, share_made, reported, by_controller, by_switch, by_place}
+use Rattle.rehearsal.specs.Steps.{delivered, share_made, answer_of, share_of, reported, by_controller, by_switch, by_place}
 use Rattle.rehearsal.specs.Effects.{no_switch, no_controller, place_of, switch_of, record_questions, with_ends}
 use Rattle.rehearsal.specs.Scripts.{line_of, script_in, input_questions, world_in}
 use Rattle.rehearsal.specs.declared.Deed.{Deed}
 use Rattle.rehearsal.specs.declared.Delay.{Delay}
-use Rattle.rehearsal.specs.declared.Dropped.{Dropped}
-use Rattle.rehearsal.specs.declared.Dropped.TheVariants.{Nobody, Of}
 use Rattle.rehearsal.specs.declared.Kind.{Kind}
 use Rattle.rehearsal.specs.declared.Kind.TheVariants.{Decide, Send, Report, Raw, Keep, Deliver}
 use Rattle.rehearsal.specs.declared.Line.{Line}
-use Rattle.rehearsal.specs.declared.Made.{Made}
 use Rattle.rehearsal.specs.declared.Moved.{Moved}
-use Rattle.rehearsal.specs.declared.Next as next
-use Rattle.rehearsal.specs.declared.Next.TheVariants as read
 use Rattle.rehearsal.specs.declared.Place.{Place}
 use Rattle.rehearsal.specs.declared.Record.{Record}
 use Rattle.rehearsal.specs.declared.Share.{Share}
@@ -47,30 +43,27 @@ use Rattle.rehearsal.specs.declared.Wish.{Wish}
 use Rattle.rehearsal.specs.declared.World.{World}
 
 -- the share that a record makes, or has delivered; a decision and a report have none
-abbrev pub there : Share → Made
-there share = record { answer = 0; share = share }
-
-unfoldable pub share_in : Controller → Place → Kind → Record → List ℕ → Made
-share_in c p Decide r bytes = there (stored [])
+unfoldable pub share_in : Controller → Place → Kind → Record → List ℕ → Result Share ℕ
+share_in c p Decide r bytes = Ok (stored [])
 share_in c p Send r bytes = share_made c r.controller r.switch
-share_in c p Report r bytes = there (stored [])
-share_in c p Raw r bytes = there (stored (drop 2 bytes))
+share_in c p Report r bytes = Ok (stored [])
+share_in c p Raw r bytes = Ok (stored (drop 2 bytes))
 share_in c p Keep r bytes = share_made c r.controller r.switch
-share_in c p Deliver r bytes = there p.share
+share_in c p Deliver r bytes = Ok p.share
 
 -- whether bytes on their way to a switch are dropped: a share's second byte names its sender
-unfoldable pub drops : Dropped → List ℕ → Bool
-drops Nobody bytes = false
-drops (Of c) bytes = ltb sender_at (length bytes) && eqb (byte_at bytes sender_at) c
+unfoldable pub drops : Option ℕ → List ℕ → Bool
+drops None bytes = false
+drops (Some c) bytes = ltb sender_at (length bytes) && eqb (byte_at bytes sender_at) c
 
 -- a share that was made reaches a switch, or is dropped: then the switch stays, and the answer is 26, as of nothing sent
-unfoldable pub arrived : Dropped → ℕ → Switch → ℕ → Made → switch.Reply
-arrived d n s to m =
-    reply ((m.answer, eqb m.answer 0) ∷ (26, not (drops d (bytes_of m.share))) ∷ []) (switches.unchanged s)
-    (delivered n s to (bytes_of m.share))
+unfoldable pub arrived : Option ℕ → ℕ → Switch → ℕ → Result Share ℕ → switch.Reply
+arrived d n s to (Err k) = switches.unchanged s k
+arrived d n s to (Ok share) =
+    reply ((26, not (drops d (bytes_of share))) ∷ []) (switches.unchanged s) (delivered n s to (bytes_of share))
 
 -- a record carried out with its share, where some are dropped
-unfoldable pub carried_but : Dropped → Controller → Switch → Place → ℕ → Kind → Record → Made → Moved
+unfoldable pub carried_but : Option ℕ → Controller → Switch → Place → ℕ → Kind → Record → Result Share ℕ → Moved
 carried_but d c s p n Decide r m = by_controller c s p (decided_by c r.switch r.serial r.cause)
 carried_but d c s p n Send r m = by_switch c s p (arrived d n s r.switch m)
 carried_but d c s p n Report r m = by_controller c s p (reported n s c r.switch r.controller)
@@ -164,10 +157,10 @@ begun_deed r to answer figure share slots after before last delay =
     }
 
 -- the deed by a controller and a switch as they were before it, its share, and what it did
-abbrev pub deed_by : Record → ℕ → Controller → Switch → Made → Moved → Deed
+abbrev pub deed_by : Record → ℕ → Controller → Switch → Result Share ℕ → Moved → Deed
 deed_by r to c s made m =
-    begun_deed r to m.answer m.figure made.share s.slots m.switch.slots c.progress.last
-    m.controller.progress.last (delay_of made.answer (undone_of c) to)
+    begun_deed r to m.answer m.figure (share_of made) s.slots m.switch.slots c.progress.last
+    m.controller.progress.last (delay_of (answer_of made) (undone_of c) to)
 
 -- a record that passed its questions, in a world: the ends that it names, its share, what it did, and the world after it
 abbrev pub controller_in : World → Record → Controller
@@ -176,19 +169,19 @@ controller_in w r = get_or w.controllers r.controller no_controller
 abbrev pub switch_in : World → Record → Switch
 switch_in w r = get_or w.switches (switch_of r.kind r (place_of w r)) no_switch
 
-abbrev pub made_in : World → Record → List ℕ → Made
+abbrev pub made_in : World → Record → List ℕ → Result Share ℕ
 made_in w r bytes = share_in (controller_in w r) (place_of w r) r.kind r bytes
 
-abbrev pub moved_in : Dropped → World → Record → List ℕ → Moved
+abbrev pub moved_in : Option ℕ → World → Record → List ℕ → Moved
 moved_in d w r bytes =
     carried_but d (controller_in w r) (switch_in w r) (place_of w r) w.n r.kind r (made_in w r bytes)
 
-abbrev pub deed_in : Dropped → World → Record → List ℕ → Deed
+abbrev pub deed_in : Option ℕ → World → Record → List ℕ → Deed
 deed_in d w r bytes =
     deed_by r (switch_of r.kind r (place_of w r)) (controller_in w r) (switch_in w r) (made_in w r bytes)
     (moved_in d w r bytes)
 
-abbrev pub world_but : Dropped → World → Record → List ℕ → World
+abbrev pub world_but : Option ℕ → World → Record → List ℕ → World
 world_but d w r bytes =
     with_ends w r.controller (switch_of r.kind r (place_of w r)) r.place (moved_in d w r bytes)
 
@@ -200,17 +193,17 @@ abbrev pub first : Deed → Tale → Tale
 first x t = (x ∷ t.0, t.1)
 
 -- a script, record after record, as `lines_from` goes through it
-abbrev pub record_deeds : Dropped → World → Record → List ℕ → (World → Tale) → Tale
+abbrev pub record_deeds : Option ℕ → World → Record → List ℕ → (World → Tale) → Tale
 record_deeds d w r bytes rest =
     reply (record_questions w.n r (place_of w r))
     (λ q. first (plain_deed true r (switch_of r.kind r (place_of w r)) q) (rest w))
     (first (deed_in d w r bytes) (rest (world_but d w r bytes)))
 
-abbrev pub next_deeds : Dropped → World → next.Next → List ℕ → (ℕ → World → Tale) → Tale
-next_deeds d w (read.Refused q) b on = (broken_deed q ∷ [], w)
-next_deeds d w (read.Found r) b on = record_deeds d w r (take (size_of r.kind) b) (on (size_of r.kind - 1))
+abbrev pub next_deeds : Option ℕ → World → Result Record ℕ → List ℕ → (ℕ → World → Tale) → Tale
+next_deeds d w (Err q) b on = (broken_deed q ∷ [], w)
+next_deeds d w (Ok r) b on = record_deeds d w r (take (size_of r.kind) b) (on (size_of r.kind - 1))
 
-unfoldable pub deeds_from : Dropped → ℕ → List ℕ → World → Tale
+unfoldable pub deeds_from : Option ℕ → ℕ → List ℕ → World → Tale
 deeds_from d skip [] w = ([], w)
 deeds_from d (suc skip) (x ∷ xs) w = deeds_from d skip xs w
 deeds_from d zero (x ∷ xs) w =
@@ -220,7 +213,7 @@ deeds_from d zero (x ∷ xs) w =
 abbrev pub told_by : ℕ → Tale → Told
 told_by q t = record { answer = q; deeds = pad most_lines (broken_deed 0) t.0; count = length t.0; world = t.1 }
 
-unfoldable pub told_of : Dropped → List ℕ → Told
+unfoldable pub told_of : Option ℕ → List ℕ → Told
 told_of d input =
     reply (input_questions input) (λ q. told_by q ([], world_of 0 (store_of no_plans)))
     (told_by 0 (deeds_from d 0 (script_in input) (world_in input)))

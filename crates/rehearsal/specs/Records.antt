@@ -1,12 +1,10 @@
 -- The records of a script in their bytes (document 01, "Rehearsal program").
-use Rattle.std.specs.Prelude.{ℕ, ◌+◌, Bool, ◌||◌, List, [], ◌∷◌, length, leb, ltb, eqb}
+use Rattle.std.specs.Prelude.{ℕ, ◌+◌, Bool, ◌||◌, List, [], ◌∷◌, Result, Ok, Err, length, leb, ltb, eqb}
 use Rattle.answer.specs.Ask.{Numbered, pick, Question, reply}
 use Rattle.lists.specs.Bytes.{field, byte_at}
 use Rattle.message.specs.Layout.{share_length}
 use Rattle.rehearsal.specs.declared.Kind.{Kind}
 use Rattle.rehearsal.specs.declared.Kind.TheVariants.{Decide, Send, Report, Raw, Keep, Deliver}
-use Rattle.rehearsal.specs.declared.Next.{Next}
-use Rattle.rehearsal.specs.declared.Next.TheVariants.{Found, Refused}
 use Rattle.rehearsal.specs.declared.Record.{Record}
 
 -- the byte that a record of a kind begins with
@@ -73,11 +71,11 @@ reading_questions b =
     ∷ []
 
 -- the record at the front of bytes
-unfoldable pub record_at : List ℕ → Next
-record_at b = reply (reading_questions b) Refused (Found (record_of (kind_of (byte_at b 0)) b))
+unfoldable pub record_at : List ℕ → Result Record ℕ
+record_at b = reply (reading_questions b) Err (Ok (record_of (kind_of (byte_at b 0)) b))
 
 -- what is read, as document 01's number and values: a record's are its kind's byte and what it names
-abbrev pub next_said : Next → Numbered
-next_said (Refused q) = (q, [])
-next_said (Found r) =
+abbrev pub next_said : Result Record ℕ → Numbered
+next_said (Err q) = (q, [])
+next_said (Ok r) =
     (0, byte_of r.kind ∷ r.controller ∷ r.switch ∷ r.place ∷ r.serial ∷ r.cause ∷ [])

@@ -1,5 +1,5 @@
 -- A script carried out record after record, and the whole input (document 01, "Rehearsal program").
-use Rattle.std.specs.Prelude.{ℕ, zero, suc, ◌+◌, ◌-◌, ◌&&◌, List, [], ◌∷◌, length, take, drop, ltb, leb, eqb}
+use Rattle.std.specs.Prelude.{ℕ, zero, suc, ◌+◌, ◌-◌, ◌&&◌, List, [], ◌∷◌, Result, Ok, Err, length, take, drop, ltb, leb, eqb}
 use Rattle.answer.specs.Limits.{most_controllers}
 use Rattle.answer.specs.Ask.{Question, reply}
 use Rattle.lists.specs.Bytes.{byte_at}
@@ -11,8 +11,6 @@ use Rattle.rehearsal.specs.Worlds.{world_of}
 use Rattle.rehearsal.specs.Records.{size_of, record_at}
 use Rattle.rehearsal.specs.Effects.{place_of, record_questions, carried_in, world_after}
 use Rattle.rehearsal.specs.declared.Line.{Line}
-use Rattle.rehearsal.specs.declared.Next.{Next}
-use Rattle.rehearsal.specs.declared.Next.TheVariants.{Found, Refused}
 use Rattle.rehearsal.specs.declared.Printed.{Printed}
 use Rattle.rehearsal.specs.declared.Record.{Record}
 use Rattle.rehearsal.specs.declared.World.{World}
@@ -29,9 +27,9 @@ record_lines w k r bytes rest =
     (line_of k (carried_in w r bytes).answer (carried_in w r bytes).figure ∷ rest (world_after w r bytes))
 
 -- what stands at the front of a script: bytes that are refused print their line, and the run stops
-abbrev pub next_lines : World → ℕ → Next → List ℕ → (ℕ → World → List Line) → List Line
-next_lines w k (Refused q) b on = line_of k q 0 ∷ []
-next_lines w k (Found r) b on = record_lines w k r (take (size_of r.kind) b) (on (size_of r.kind - 1))
+abbrev pub next_lines : World → ℕ → Result Record ℕ → List ℕ → (ℕ → World → List Line) → List Line
+next_lines w k (Err q) b on = line_of k q 0 ∷ []
+next_lines w k (Ok r) b on = record_lines w k r (take (size_of r.kind) b) (on (size_of r.kind - 1))
 
 -- byte after byte: `skip` bytes of the record at hand are still to pass, k is the ordinal of the next record
 unfoldable pub lines_from : ℕ → List ℕ → ℕ → World → List Line

@@ -1,7 +1,7 @@
 -- What one record does to the controller, the switch and the place that it names (document 01, "Rehearsal program"), by
 -- the ends' own definitions: a share or an acknowledgement is made in a frame of its own, which alters no state, and
 -- delivered.
-use Rattle.std.specs.Prelude.{ℕ, List, [], length, replicate, drop, eqb}
+use Rattle.std.specs.Prelude.{ℕ, List, [], Result, Ok, Err, length, replicate, drop, eqb}
 use Rattle.answer.specs.Ask.{pick}
 use Rattle.message.specs.Keys.{key_at}
 use Rattle.message.specs.Layout.{acknowledgement_length}
@@ -21,28 +21,39 @@ use Rattle.controller.specs.declared.Controller.{Controller}
 use Rattle.rehearsal.specs.Worlds.{switch_keys, controller_keys, longest_share, stored, bytes_of}
 use Rattle.rehearsal.specs.declared.Kind.{Kind}
 use Rattle.rehearsal.specs.declared.Kind.TheVariants.{Decide, Send, Report, Raw, Keep, Deliver}
-use Rattle.rehearsal.specs.declared.Made.{Made}
 use Rattle.rehearsal.specs.declared.Moved.{Moved}
 use Rattle.rehearsal.specs.declared.Place.{Place}
 use Rattle.rehearsal.specs.declared.Record.{Record}
+use Rattle.rehearsal.specs.declared.Share.{Share}
 
 -- bytes delivered to the switch with a number
 abbrev pub delivered : ℕ → Switch → ℕ → List ℕ → switch.Reply
 delivered n s to bytes = switch-receives.received_by s (switch_keys n to) bytes
 
 -- the current share of the controller with a number, for a switch: the bytes of its message, where writing it into a
--- frame with room for the longest share is answered 0, and else no bytes
-unfoldable pub share_made : Controller → ℕ → ℕ → Made
+-- frame with room for the longest share is answered 0, and else that answer
+unfoldable pub share_made : Controller → ℕ → ℕ → Result Share ℕ
 share_made c from to =
     let keys = controller_keys from in
     let k = (share_written c keys to (replicate longest_share 0) 0).0.answer in
-    record { answer = k; share = stored (pick (eqb k 0) (encode (key_at keys to) (share_for c to)) []) }
+    pick (eqb k 0) (Ok (stored (encode (key_at keys to) (share_for c to)))) (Err k)
+
+-- the number that answers the making of a share, and the share; one that was not made has no bytes
+abbrev pub answer_of : Result Share ℕ → ℕ
+answer_of (Ok share) = 0
+answer_of (Err k) = k
+
+abbrev pub share_of : Result Share ℕ → Share
+share_of (Ok share) = share
+share_of (Err k) = stored []
 
 -- send: the share that was made is delivered
+abbrev pub arrives : ℕ → Switch → ℕ → Result Share ℕ → switch.Reply
+arrives n s to (Ok share) = delivered n s to (bytes_of share)
+arrives n s to (Err k) = switches.unchanged s k
+
 unfoldable pub sent : ℕ → Controller → Switch → ℕ → ℕ → switch.Reply
-sent n c s from to =
-    let m = share_made c from to in
-    pick (eqb m.answer 0) (delivered n s to (bytes_of m.share)) (switches.unchanged s m.answer)
+sent n c s from to = arrives n s to (share_made c from to)
 
 -- report: the same for the acknowledgement
 unfoldable pub reported : ℕ → Switch → Controller → ℕ → ℕ → controller.Reply
@@ -52,8 +63,9 @@ reported n s c from to =
     (controllers.unchanged c w.0.answer)
 
 -- keep: the share that was made is stored; a refused one alters no place
-abbrev pub kept : Made → ℕ → Place → Place
-kept m to p = pick (eqb m.answer 0) (record { switch = to; share = m.share }) p
+abbrev pub kept : Result Share ℕ → ℕ → Place → Place
+kept (Ok share) to p = record { switch = to; share = share }
+kept (Err k) to p = p
 
 module _ (c : Controller) (s : Switch) (p : Place) where
   -- the controller replied: the figure is how many changes it has undone
@@ -77,9 +89,9 @@ module _ (c : Controller) (s : Switch) (p : Place) where
   }
 
   -- a share was made for the place
-  abbrev pub by_place : Made → ℕ → Moved
+  abbrev pub by_place : Result Share ℕ → ℕ → Moved
   by_place m to = record {
-    answer = m.answer;
+    answer = answer_of m;
     figure = s.last;
     controller = c;
     switch = s;

@@ -4,14 +4,12 @@ ghost use Rattle.std.specs.Prelude.{◌≡◌, [], ◌∷◌, ◌++◌, ◌+◌,
 ghost use Rattle.std.proofs.lemmas.List.Edits.{sets};
 ghost use Rattle.rehearsal.specs.Lines.{digits, stripped, decimal};
 
-const ZERO: u8 = 48;
-
 // The digit of a unit, which is a power of ten.
 fn digit(x: u32, unit: u32) -> u8
     requires { 0 < unit }
     ensures { result ≡ 48 + x / unit % 10 }
 {
-    ZERO + (x / unit % 10) as u8
+    b'0' + (x / unit % 10) as u8
 }
 
 // All ten digits that a number of 32 bits may have.
@@ -33,18 +31,16 @@ fn digits_of(x: u32) -> [u8; 10]
 }
 
 // How many zeros stand in front; the last digit is not one of them.
-fn zeros_in_front(d: [u8; 10]) -> usize
-    ensures { (result ≤ 9) × (drop result d ≡ stripped d) }
+fn zeros_in_front(digits: [u8; 10]) -> usize
+    ensures within { result ≤ 9 }
+    ensures rest { drop result digits ≡ stripped digits }
 {
-    let mut i: usize = 0;
-    while i < 9 {
-        if d[i] == ZERO {
-            i += 1;
-        } else {
+    for (i, digit) in digits[..9].iter().enumerate() {
+        if *digit != b'0' {
             return i;
         }
     }
-    i
+    9
 }
 
 // How many digits a number has.
@@ -60,14 +56,10 @@ pub(crate) fn put_number(out: &mut [u8], at: usize, x: u32, end: u8) -> usize
     ensures { (result ≡ at + length (decimal x) + 1)
         × (out.new ≡ sets out.old at (decimal x ++ end ∷ [])) }
 {
-    let d = digits_of(x);
-    let zeros = zeros_in_front(d);
-    let n = 10 - zeros;
-    let mut i: usize = 0;
-    while i < n {
-        out[at + i] = d[zeros + i];
-        i += 1;
-    }
-    out[at + n] = end;
-    at + n + 1
+    let digits = digits_of(x);
+    let zeros = zeros_in_front(digits);
+    let behind = at + 10 - zeros;
+    out[at..behind].copy_from_slice(&digits[zeros..]);
+    out[behind] = end;
+    behind + 1
 }

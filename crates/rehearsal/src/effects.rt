@@ -1,53 +1,69 @@
-// A record in a world: what it names, and what is asked before anything is made or delivered.
-ghost use Rattle.std.specs.Prelude.{◌≡◌, get_or};
+// A record in a world: what it names, what is asked before anything is made or delivered, and what it does.
+ghost use Rattle.std.specs.Prelude.{◌≡◌, ◌≤◌, length};
 ghost use Rattle.answer.specs.Ask.{first_no};
-ghost use Rattle.rehearsal.specs.Worlds.{empty_place};
+ghost use Rattle.answer.specs.Limits.{most_controllers};
+ghost use Rattle.rehearsal.specs.Records.{size_of};
 ghost use Rattle.rehearsal.specs.Effects.{switch_of, record_questions};
+ghost use Rattle.rehearsal.specs.Storing.{turn_of};
 
-use crate::worlds::empty_place;
-use crate::{Kind, Place, Record, limits};
+use crate::delivery::share_in;
+use crate::{Deed, Ends, Kind, Place, Record, World, limits};
 
-// The place with a number, or an empty one where there is none.
-pub(crate) fn place_at(places: [Place; limits::PLACES], place: u8) -> Place
-    ensures { result ≡ get_or places place empty_place }
-{
-    if limits::PLACES <= place as usize {
-        return empty_place();
+impl Record {
+    // The number of the switch that it is about: a kept share has its own.
+    fn switch_of(self, place: &Place) -> u8
+        ensures { result ≡ switch_of self.kind self place.now }
+    {
+        match self.kind {
+            Kind::Deliver => place.switch,
+            _ => self.switch,
+        }
     }
-    let found = places[place as usize];
-    found
+
+    // Questions 12, 29 and 26, before anything is made or delivered.
+    fn question(self, n: u8, place: &Place) -> u8
+        ensures { result ≡ first_no (record_questions n self place.now) }
+    {
+        if n <= self.controller {
+            return answer::UNKNOWN_ID;
+        }
+        if limits::SWITCHES <= self.switch as usize {
+            return answer::UNKNOWN_ID;
+        }
+        if limits::PLACES <= self.place as usize {
+            return answer::UNKNOWN_PLACE;
+        }
+        if limits::SWITCHES <= self.switch_of(place) as usize {
+            return answer::NOTHING_TO_SEND;
+        }
+        answer::DONE
+    }
 }
 
-// The number of the switch that a record is about: a kept share has its own.
-pub(crate) fn switch_of(r: Record, place: Place) -> u8
-    ensures { result ≡ switch_of r.kind r place }
-{
-    let kind = r.kind;
-    match kind {
-        Kind::Decide => r.switch,
-        Kind::Send => r.switch,
-        Kind::Report => r.switch,
-        Kind::Raw => r.switch,
-        Kind::Keep => r.switch,
-        Kind::Deliver => place.switch,
+impl World {
+    // A record with its bytes, carried out unless a question refuses it. What it names is taken out and put back: the
+    // world is large, and stays where it is.
+    pub(crate) fn carry_out(&mut self, dropped: Option<u8>, r: Record, bytes: &[u8]) -> Deed
+        requires few { self.old.n ≤ most_controllers }
+        requires whole { length bytes.now ≤ size_of r.kind }
+        ensures { (result, self.new) ≡ turn_of dropped self.old r bytes.now }
+    {
+        let place = self.place(r.place);
+        let to = r.switch_of(&place);
+        let question = r.question(self.n, &place);
+        if question != answer::DONE {
+            return Deed::unbegun(r, to, question);
+        }
+        let ends = Ends {
+            controller: self.controllers[r.controller as usize],
+            switch: self.switches[to as usize],
+            place,
+        };
+        let made = share_in(&ends, r, bytes);
+        let moved = ends.carry_out(dropped, self.n, r, made);
+        self.controllers[r.controller as usize] = moved.controller;
+        self.switches[to as usize] = moved.switch;
+        self.places[r.place as usize] = moved.place;
+        Deed::begun(r, to, &ends, made, &moved)
     }
-}
-
-// Questions 12, 29 and 26, before anything is made or delivered.
-pub(crate) fn record_question(n: u8, r: Record, place: Place) -> u8
-    ensures { result ≡ first_no (record_questions n r place) }
-{
-    if n <= r.controller {
-        return answer::UNKNOWN_ID;
-    }
-    if limits::SWITCHES <= r.switch as usize {
-        return answer::UNKNOWN_ID;
-    }
-    if limits::PLACES <= r.place as usize {
-        return answer::UNKNOWN_PLACE;
-    }
-    if limits::SWITCHES <= switch_of(r, place) as usize {
-        return answer::NOTHING_TO_SEND;
-    }
-    answer::DONE
 }

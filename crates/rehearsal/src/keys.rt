@@ -5,33 +5,31 @@ ghost use Rattle.message.specs.Keys.{key_of, joined};
 ghost use Rattle.rehearsal.specs.Worlds.{controller_keys};
 
 use crate::limits;
+use message::keys::LENGTH;
 
 // The keys of a switch and all sixteen controllers.
 pub(crate) fn switch_keys(switch: u8) -> [u8; limits::KEYS]
     ensures { result ≡ joined (λ c. key_of c switch) most_controllers }
 {
-    let mut keys = [0u8; limits::KEYS];
-    let mut c: u8 = 0;
-    while c < answer::limits::CONTROLLERS {
-        let at = message::keys::LENGTH * (c as usize);
+    let mut keys = [0; limits::KEYS];
+    for c in 0..answer::limits::CONTROLLERS {
+        let at = LENGTH * (c as usize);
         keys[at] = c;
         keys[at + 1] = switch;
-        c += 1;
     }
     keys
 }
 
 // The keys of a controller and all sixteen switches.
+// Stays: one function for both would take a closure and, in its contract, what the closure gives; it is no shorter.
 pub(crate) fn controller_keys(controller: u8) -> [u8; limits::KEYS]
     ensures { result ≡ controller_keys controller }
 {
-    let mut keys = [0u8; limits::KEYS];
-    let mut s: u8 = 0;
-    while s < answer::limits::SWITCHES {
-        let at = message::keys::LENGTH * (s as usize);
+    let mut keys = [0; limits::KEYS];
+    for s in 0..answer::limits::SWITCHES {
+        let at = LENGTH * (s as usize);
         keys[at] = controller;
         keys[at + 1] = s;
-        s += 1;
     }
     keys
 }

@@ -16,6 +16,7 @@ mod printing;
 mod records;
 mod scripts;
 mod steps;
+mod storing;
 mod worlds;
 
 pub use records::{record_at, size_of};
@@ -53,11 +54,9 @@ pub struct World {
     pub places: [Place; limits::PLACES],
 }
 
-// What an input is before its script: 0, where the script begins and the world before it; or the number of the question
-// that refuses the input, 0 and a world without controllers.
+// An input that passed the questions before its script: where the script begins, and the world before it.
 #[derive(Clone, Copy)]
 pub(crate) struct Begun {
-    pub(crate) answer: u8,
     pub(crate) script: usize,
     pub(crate) world: World,
 }
@@ -84,11 +83,12 @@ pub struct Record {
     pub cause: u8,
 }
 
-// What stands at the front of a script: a record, or the number of the question that refuses the bytes.
+// What a record is carried out on: the controller, the switch and the place that it names.
 #[derive(Clone, Copy)]
-pub enum Next {
-    Found(Record),
-    Refused(u8),
+pub(crate) struct Ends {
+    pub(crate) controller: Controller,
+    pub(crate) switch: Switch,
+    pub(crate) place: Place,
 }
 
 // What a record does: its answer, its figure, and the controller, the switch and the place that it was carried out on.
@@ -99,20 +99,6 @@ pub(crate) struct Moved {
     pub(crate) controller: Controller,
     pub(crate) switch: Switch,
     pub(crate) place: Place,
-}
-
-// A share made: 0 and its bytes, or the number of the question that refuses it and no bytes.
-#[derive(Clone, Copy)]
-pub(crate) struct Made {
-    pub(crate) answer: u8,
-    pub(crate) share: Share,
-}
-
-// Whose shares are dropped on their way to a switch: nobody's, or those of the sender with a number.
-#[derive(Clone, Copy)]
-pub enum Dropped {
-    Nobody,
-    Of(u8),
 }
 
 // What a switch reads in bytes: whether they are a share, and then its sender, its number and its rule.

@@ -1,51 +1,29 @@
 // The record that stands at a place of a script.
 ghost use Rattle.std.specs.Prelude.{◌≡◌, ◌≤◌, length};
-ghost use Rattle.rehearsal.specs.Records.{is_kind, kind_of, size_of, naming, record_of, record_at};
-ghost use Rattle.rehearsal.specs.declared.Kind.TheVariants as kinds;
+ghost use Rattle.rehearsal.specs.Records.{size_of, naming, record_of, record_at};
 
-use crate::{Kind, Next, Record, limits};
+use crate::{Kind, Record, limits};
 use lists::byte_at;
 
-fn is_kind(byte: u8) -> bool
-    ensures { result ≡ is_kind byte }
-{
-    if byte == limits::DECIDE {
-        return true;
-    }
-    if byte == limits::SEND {
-        return true;
-    }
-    if byte == limits::REPORT {
-        return true;
-    }
-    if byte == limits::RAW {
-        return true;
-    }
-    if byte == limits::KEEP {
-        return true;
-    }
-    byte == limits::DELIVER
-}
+impl TryFrom<u8> for Kind {
+    type Error = u8;
 
-fn kind_of(byte: u8) -> Kind
-    ensures { result ≡ kind_of byte }
-{
-    if byte == limits::DECIDE {
-        return Kind::Decide;
+    ghost use Rattle.rehearsal.specs.Storing.{ReadsKind};
+
+    ghost try_from_gives = { ReadsKind };
+
+    #[tactic(auto, unfolding(crate::specs::Records::is_kind))]
+    fn try_from(byte: u8) -> Result<Self, u8> {
+        match byte {
+            limits::DECIDE => Ok(Kind::Decide),
+            limits::SEND => Ok(Kind::Send),
+            limits::REPORT => Ok(Kind::Report),
+            limits::RAW => Ok(Kind::Raw),
+            limits::KEEP => Ok(Kind::Keep),
+            limits::DELIVER => Ok(Kind::Deliver),
+            _ => Err(answer::UNKNOWN_KIND),
+        }
     }
-    if byte == limits::SEND {
-        return Kind::Send;
-    }
-    if byte == limits::REPORT {
-        return Kind::Report;
-    }
-    if byte == limits::RAW {
-        return Kind::Raw;
-    }
-    if byte == limits::KEEP {
-        return Kind::Keep;
-    }
-    Kind::Deliver
 }
 
 // How many bytes a record has, its kind among them.
@@ -62,63 +40,54 @@ pub fn size_of(kind: Kind) -> usize
     }
 }
 
-pub(crate) fn naming(kind: Kind, controller: u8, switch: u8, place: u8) -> Record
-    ensures { result ≡ naming kind controller switch place }
-{
-    Record {
-        kind: kind,
-        controller: controller,
-        switch: switch,
-        place: place,
-        serial: 0,
-        cause: 0,
+impl Record {
+    // A record that names a controller, a switch and a place.
+    pub(crate) fn naming(kind: Kind, controller: u8, switch: u8, place: u8) -> Self
+        ensures { result ≡ naming kind controller switch place }
+    {
+        Record {
+            kind,
+            controller,
+            switch,
+            place,
+            serial: 0,
+            cause: 0,
+        }
+    }
+
+    // What a record of a kind names, in its bytes.
+    fn of(kind: Kind, b: &[u8]) -> Self
+        requires { size_of kind ≤ length b.now }
+        ensures { result ≡ record_of kind b.now }
+    {
+        match kind {
+            Kind::Decide => Record {
+                kind,
+                controller: byte_at(b, 1),
+                switch: byte_at(b, 2),
+                place: 0,
+                serial: lists::u32_of(byte_at(b, 3), byte_at(b, 4), byte_at(b, 5), byte_at(b, 6)),
+                cause: byte_at(b, 7),
+            },
+            Kind::Send => Record::naming(kind, byte_at(b, 1), byte_at(b, 2), 0),
+            Kind::Report => Record::naming(kind, byte_at(b, 2), byte_at(b, 1), 0),
+            Kind::Raw => Record::naming(kind, 0, byte_at(b, 1), 0),
+            Kind::Keep => Record::naming(kind, byte_at(b, 1), byte_at(b, 2), byte_at(b, 3)),
+            Kind::Deliver => Record::naming(kind, 0, 0, byte_at(b, 1)),
+        }
     }
 }
 
-fn decision(b: &[u8]) -> Record
-    requires { 8 ≤ length b.now }
-    ensures { result ≡ record_of kinds.Decide b.now }
-{
-    let serial = lists::u32_of(b[3], b[4], b[5], b[6]);
-    Record {
-        kind: Kind::Decide,
-        controller: b[1],
-        switch: b[2],
-        place: 0,
-        serial: serial,
-        cause: b[7],
-    }
-}
-
-// What a record of a kind names, in its bytes.
-fn record_of(kind: Kind, b: &[u8]) -> Record
-    requires { size_of kind ≤ length b.now }
-    ensures { result ≡ record_of kind b.now }
-{
-    match kind {
-        Kind::Decide => decision(b),
-        Kind::Send => naming(Kind::Send, byte_at(b, 1), byte_at(b, 2), 0),
-        Kind::Report => naming(Kind::Report, byte_at(b, 2), byte_at(b, 1), 0),
-        Kind::Raw => naming(Kind::Raw, 0, byte_at(b, 1), 0),
-        Kind::Keep => naming(Kind::Keep, byte_at(b, 1), byte_at(b, 2), byte_at(b, 3)),
-        Kind::Deliver => naming(Kind::Deliver, 0, 0, byte_at(b, 1)),
-    }
-}
-
-// The record at the front of bytes: questions 30, 31 and 30.
-pub fn record_at(b: &[u8]) -> Next
+// The record at the front of bytes, or the number of the question that refuses them: 30, 31 and 30.
+pub fn record_at(b: &[u8]) -> Result<Record, u8>
     ensures { result ≡ record_at b.now }
 {
-    if b.len() == 0 {
-        return Next::Refused(answer::CUT_SHORT);
+    if b.is_empty() {
+        return Err(answer::CUT_SHORT);
     }
-    let byte = byte_at(b, 0);
-    if !is_kind(byte) {
-        return Next::Refused(answer::UNKNOWN_KIND);
-    }
-    let kind = kind_of(byte);
+    let kind = Kind::try_from(b[0])?;
     if b.len() < size_of(kind) {
-        return Next::Refused(answer::CUT_SHORT);
+        return Err(answer::CUT_SHORT);
     }
-    Next::Found(record_of(kind, b))
+    Ok(Record::of(kind, b))
 }

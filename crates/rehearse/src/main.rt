@@ -13,13 +13,13 @@ const STDERR_FILENO: i32 = 2;
 fn for_input() -> [u8; rehearsal::INPUT]
     ensures { longest_input + 1 ≡ length result }
 {
-    [0u8; rehearsal::INPUT]
+    [0; rehearsal::INPUT]
 }
 
 fn for_output() -> [u8; rehearsal::OUTPUT]
     ensures { most_printed ≡ length result }
 {
-    [0u8; rehearsal::OUTPUT]
+    [0; rehearsal::OUTPUT]
 }
 
 // What could not be written is told on standard error.
@@ -34,6 +34,5 @@ fn main() {
     let n = io::read_full(STDIN_FILENO, &mut input);
     let mut out = for_output();
     let printed = rehearsal::rehearse(&input[..n], &mut out);
-    let length = printed.length;
-    write(&out[..length]);
+    write(&out[..printed.length]);
 }

@@ -1,52 +1,65 @@
-// Ends, rules and figures in words.
+// Rules, changes and figures in words.
 use flow::{Action, Rule};
-use prose::{OUT, say, say_number, say_prefix};
+use prose::Prefix;
+use std::fmt;
 
-// A name and a number, as switch 5.
-pub fn say_name(out: &mut [u8; OUT], name: &[u8], number: u32) {
-    say(out, name);
-    say(out, b" ");
-    say_number(out, number as u64);
-}
+/// A rule, as 10.0.0.0/8 to port 3.
+#[derive(Clone, Copy)]
+pub struct RuleWords(pub Rule);
 
-// A rule, as 10.0.0.0/8 to port 3.
-pub fn say_rule(out: &mut [u8; OUT], rule: Rule) {
-    let action = rule.action;
-    say_prefix(out, rule.prefix, rule.length);
-    match action {
-        Action::Remove => say(out, b" removed"),
-        Action::Set(port) => {
-            say(out, b" to port ");
-            say_number(out, port as u64);
+impl fmt::Display for RuleWords {
+    fn fmt<W: fmt::Write>(&self, f: &mut fmt::Formatter<W>) -> fmt::Result {
+        let rule = self.0;
+        let prefix = Prefix {
+            address: rule.prefix,
+            length: rule.length,
+        };
+        match rule.action {
+            Action::Remove => write!(f, "{prefix} removed"),
+            Action::Set(port) => write!(f, "{prefix} to port {port}"),
         }
     }
 }
 
-// A numbered change with its rule.
-pub fn say_change(out: &mut [u8; OUT], number: u32, rule: Rule) {
-    say_name(out, b"change", number);
-    say(out, b", ");
-    say_rule(out, rule);
+/// A numbered change with its rule.
+#[derive(Clone, Copy)]
+pub struct ChangeWords {
+    pub number: u32,
+    pub rule: Rule,
 }
 
-// How many undone changes there are.
-pub fn say_count(out: &mut [u8; OUT], count: u32) {
-    match count {
-        0 => say(out, b"no undone change"),
-        1 => say(out, b"1 undone change"),
-        _ => {
-            say_number(out, count as u64);
-            say(out, b" undone changes");
+impl fmt::Display for ChangeWords {
+    fn fmt<W: fmt::Write>(&self, f: &mut fmt::Formatter<W>) -> fmt::Result {
+        write!(f, "change {}, {}", self.number, RuleWords(self.rule))
+    }
+}
+
+/// How many undone changes there are.
+#[derive(Clone, Copy)]
+pub struct UndoneCount(pub u32);
+
+impl fmt::Display for UndoneCount {
+    fn fmt<W: fmt::Write>(&self, f: &mut fmt::Formatter<W>) -> fmt::Result {
+        match self.0 {
+            0 => f.write_str("no undone change"),
+            1 => f.write_str("1 undone change"),
+            count => write!(f, "{count} undone changes"),
         }
     }
 }
 
-// How far a switch is.
-pub fn say_last(out: &mut [u8; OUT], switch: u8, last: u32) {
-    say_name(out, b"switch", switch as u32);
-    if last == 0 {
-        say(out, b" has made no change");
-    } else {
-        say_name(out, b" is at change", last);
+/// How far a switch is: the number of the last change that it made, 0 before the first.
+#[derive(Clone, Copy)]
+pub struct Position {
+    pub switch: u8,
+    pub last: u32,
+}
+
+impl fmt::Display for Position {
+    fn fmt<W: fmt::Write>(&self, f: &mut fmt::Formatter<W>) -> fmt::Result {
+        match self.last {
+            0 => write!(f, "switch {} has made no change", self.switch),
+            last => write!(f, "switch {} is at change {last}", self.switch),
+        }
     }
 }

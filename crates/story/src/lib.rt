@@ -7,7 +7,7 @@ mod meanings;
 mod telling;
 mod words;
 
-pub use figures::{say_change, say_count, say_last, say_name, say_rule};
-pub use meanings::say_meaning;
+pub use figures::{ChangeWords, Position, RuleWords, UndoneCount};
+pub use meanings::Meaning;
 pub use telling::tell;
-pub use words::{say_line, say_words};
+pub use words::{Line, Words};

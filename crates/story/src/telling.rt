@@ -2,14 +2,13 @@
 ghost use Rattle.std.specs.Prelude.{◌≡◌};
 ghost use Rattle.rehearsal.specs.Deeds.{told_of, lines_told};
 ghost use Rattle.rehearsal.specs.Scripts.{lines_of};
-ghost use Rattle.rehearsal.specs.declared.Dropped.TheVariants as whose;
 
-use rehearsal::{Dropped, Told};
+use rehearsal::Told;
 
 // The story of an input.
 pub fn tell(input: &[u8]) -> Told
-    ensures { (result ≡ told_of whose.Nobody input.now)
+    ensures { (result ≡ told_of None input.now)
         × (lines_told result ≡ lines_of input.now) }
 {
-    rehearsal::tell(Dropped::Nobody, input)
+    rehearsal::tell(None, input)
 }

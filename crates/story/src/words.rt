@@ -1,303 +1,263 @@
 // A record in words: what the record asks for, what came of it, and the figure.
-use crate::figures::{say_change, say_count, say_last, say_name, say_rule};
-use crate::meanings::say_meaning;
-use flow::Rule;
-use lists::front;
-use notation::Giver;
-use prose::{OUT, say, say_number};
+use crate::figures::{ChangeWords, Position, RuleWords, UndoneCount};
+use crate::meanings::Meaning;
+use notation::Pair;
 use rehearsal::{Deed, Kind, Share};
+use std::fmt;
 
-fn say_controller(out: &mut [u8; OUT], controller: u8) {
-    say_name(out, b"controller", controller as u32);
+/// What a record among n controllers did.
+#[derive(Clone, Copy)]
+pub struct Words<'a> {
+    pub n: u8,
+    pub deed: &'a Deed,
 }
 
-fn say_switch(out: &mut [u8; OUT], switch: u8) {
-    say_name(out, b"switch", switch as u32);
-}
-
-fn say_place(out: &mut [u8; OUT], place: u8) {
-    say_name(out, b"place", place as u32);
-}
-
-fn say_decide(out: &mut [u8; OUT], deed: Deed) {
-    let item = deed.item;
-    say_controller(out, deed.controller);
-    say_name(out, b" decides on event", item.serial);
-    say(out, b" of ");
-    say_switch(out, deed.switch);
-    say_name(out, b", cause", item.cause as u32);
-}
-
-fn say_send(out: &mut [u8; OUT], deed: Deed) {
-    say_controller(out, deed.controller);
-    say(out, b" sends its share to ");
-    say_switch(out, deed.switch);
-}
-
-fn say_report(out: &mut [u8; OUT], deed: Deed) {
-    say_switch(out, deed.switch);
-    say(out, b" reports to ");
-    say_controller(out, deed.controller);
-}
-
-fn say_raw(out: &mut [u8; OUT], deed: Deed) {
-    if deed.wish.shared {
-        say(out, b"a made-up share in the name of ");
-        say_controller(out, deed.controller);
-        say(out, b" reaches ");
-    } else {
-        say(out, b"a made-up message reaches ");
-    }
-    say_switch(out, deed.switch);
-}
-
-fn say_keep(out: &mut [u8; OUT], deed: Deed) {
-    say_controller(out, deed.controller);
-    say(out, b" makes its share for ");
-    say_switch(out, deed.switch);
-    say(out, b", kept in ");
-    say_place(out, deed.item.place);
-}
-
-fn say_deliver(out: &mut [u8; OUT], deed: Deed) {
-    if deed.wish.shared {
-        say(out, b"the share of ");
-        say_controller(out, deed.controller);
-        say(out, b" kept in ");
-        say_place(out, deed.item.place);
-        say(out, b" reaches ");
-        say_switch(out, deed.switch);
-    } else {
-        say(out, b"the share kept in ");
-        say_place(out, deed.item.place);
-        say(out, b" is due");
+impl fmt::Display for Words<'_> {
+    fn fmt<W: fmt::Write>(&self, f: &mut fmt::Formatter<W>) -> fmt::Result {
+        self.write_asked(f)?;
+        f.write_str(": ")?;
+        self.write_answer(f)?;
+        if self.deed.begun {
+            self.write_figure(f)?;
+            if self.deed.wish.shared {
+                self.write_share(f)?;
+            }
+        }
+        Ok(())
     }
 }
 
-fn say_asked(out: &mut [u8; OUT], deed: Deed) {
-    let item = deed.item;
-    let kind = item.kind;
-    if !deed.found {
-        say(out, b"here the script stops");
-        return;
+impl Words<'_> {
+    // What the record asks for.
+    fn write_asked<W: fmt::Write>(&self, f: &mut fmt::Formatter<W>) -> fmt::Result {
+        let Deed {
+            controller,
+            switch,
+            ..
+        } = *self.deed;
+        let item = self.deed.item;
+        if !self.deed.found {
+            return f.write_str("here the script stops");
+        }
+        match item.kind {
+            Kind::Decide => write!(
+                f,
+                "controller {controller} decides on event {} of switch {switch}, cause {}",
+                item.serial, item.cause
+            ),
+            Kind::Send => write!(
+                f,
+                "controller {controller} sends its share to switch {switch}"
+            ),
+            Kind::Report => write!(f, "switch {switch} reports to controller {controller}"),
+            Kind::Raw => self.write_raw(f),
+            Kind::Keep => write!(
+                f,
+                "controller {controller} makes its share for switch {switch}, kept in place {}",
+                item.place
+            ),
+            Kind::Deliver => self.write_delivered(f),
+        }
     }
-    match kind {
-        Kind::Decide => say_decide(out, deed),
-        Kind::Send => say_send(out, deed),
-        Kind::Report => say_report(out, deed),
-        Kind::Raw => say_raw(out, deed),
-        Kind::Keep => say_keep(out, deed),
-        Kind::Deliver => say_deliver(out, deed),
+
+    fn write_raw<W: fmt::Write>(&self, f: &mut fmt::Formatter<W>) -> fmt::Result {
+        let Deed {
+            controller,
+            switch,
+            ..
+        } = *self.deed;
+        if self.deed.wish.shared {
+            write!(
+                f,
+                "a made-up share in the name of controller {controller} reaches switch {switch}"
+            )
+        } else {
+            write!(f, "a made-up message reaches switch {switch}")
+        }
     }
-}
 
-// The first of so many numbers up to the last.
-fn first_of(given: u32, last: u32) -> u32 {
-    if given <= last { last - given } else { 0 }
-}
+    fn write_delivered<W: fmt::Write>(&self, f: &mut fmt::Formatter<W>) -> fmt::Result {
+        let Deed {
+            controller,
+            switch,
+            ..
+        } = *self.deed;
+        let place = self.deed.item.place;
+        if self.deed.wish.shared {
+            write!(
+                f,
+                "the share of controller {controller} kept in place {place} reaches switch {switch}"
+            )
+        } else {
+            write!(f, "the share kept in place {place} is due")
+        }
+    }
 
-// The numbers that a decision gave.
-fn say_taken(out: &mut [u8; OUT], given: u32, last: u32) {
-    match given {
-        0 => say(out, b"taken, and no change is planned for it"),
-        1 => say_name(out, b"taken as change", last),
-        _ => {
-            say_name(out, b"taken as changes", first_of(given - 1, last));
-            say_name(out, b" to", last);
+    // What came of it.
+    fn write_answer<W: fmt::Write>(&self, f: &mut fmt::Formatter<W>) -> fmt::Result {
+        match self.deed.answer {
+            answer::DONE => self.write_done(f),
+            answer::APPLIED => f.write_str("applied"),
+            answer::REPEAT => f.write_str("a repeat, nothing changed"),
+            _ => self.write_refused(f),
+        }
+    }
+
+    fn write_done<W: fmt::Write>(&self, f: &mut fmt::Formatter<W>) -> fmt::Result {
+        match self.deed.item.kind {
+            Kind::Decide => self.write_taken(f),
+            Kind::Report => f.write_str("taken"),
+            Kind::Keep => f.write_str("kept"),
+            Kind::Send | Kind::Raw | Kind::Deliver => f.write_str("held"),
+        }
+    }
+
+    // The numbers that a decision gave.
+    fn write_taken<W: fmt::Write>(&self, f: &mut fmt::Formatter<W>) -> fmt::Result {
+        let last = self.deed.last;
+        match self.deed.numbers {
+            0 => f.write_str("taken, and no change is planned for it"),
+            1 => write!(f, "taken as change {last}"),
+            given => {
+                let first = last.saturating_sub(given - 1);
+                write!(f, "taken as changes {first} to {last}")
+            }
+        }
+    }
+
+    fn write_refused<W: fmt::Write>(&self, f: &mut fmt::Formatter<W>) -> fmt::Result {
+        let kind = self.deed.item.kind;
+        let answer = self.deed.answer;
+        f.write_str("refused, ")?;
+        if answer == answer::UNKNOWN_ID {
+            return self.write_unknown(f);
+        }
+        write!(f, "{}", Meaning { kind, answer })?;
+        if answer == answer::NOTHING_TO_SEND && matches!(kind, Kind::Send | Kind::Keep) {
+            self.write_reason(f)?;
+        }
+        Ok(())
+    }
+
+    // Which of the ends that a record or a share names there is not.
+    fn write_unknown<W: fmt::Write>(&self, f: &mut fmt::Formatter<W>) -> fmt::Result {
+        let Deed {
+            controller,
+            switch,
+            ..
+        } = *self.deed;
+        if self.n <= controller {
+            write!(f, "there is no controller {controller}")
+        } else {
+            write!(f, "there is no switch {switch}")
+        }
+    }
+
+    // Why nothing is ready.
+    fn write_reason<W: fmt::Write>(&self, f: &mut fmt::Formatter<W>) -> fmt::Result {
+        let delay = self.deed.delay;
+        if delay.waiting == 0 {
+            return f.write_str(": it has no undone change for that switch");
+        }
+        write!(
+            f,
+            ": change {} waits for change {} on switch {}",
+            delay.waiting, delay.awaited, delay.switch
+        )
+    }
+
+    // What the figure says.
+    fn write_figure<W: fmt::Write>(&self, f: &mut fmt::Formatter<W>) -> fmt::Result {
+        let Deed {
+            controller,
+            switch,
+            figure,
+            ..
+        } = *self.deed;
+        match self.deed.item.kind {
+            Kind::Decide | Kind::Report => {
+                write!(f, "; controller {controller} has {}", UndoneCount(figure))
+            }
+            Kind::Send | Kind::Raw | Kind::Keep | Kind::Deliver => {
+                let last = figure;
+                write!(f, "; {}", Position { switch, last })
+            }
+        }
+    }
+
+    // What is told of a share beside the figure.
+    fn write_share<W: fmt::Write>(&self, f: &mut fmt::Formatter<W>) -> fmt::Result {
+        match (self.deed.item.kind, self.deed.answer) {
+            (Kind::Keep, _) => self.write_wish(f),
+            (_, answer::DONE | answer::REPEAT) => self.write_agreeing(f),
+            (_, answer::APPLIED) => write!(f, ", {}", RuleWords(self.deed.wish.slot.rule)),
+            _ => self.write_wish(f),
+        }
+    }
+
+    // The change that a share asks for.
+    fn change(&self) -> ChangeWords {
+        let slot = self.deed.wish.slot;
+        ChangeWords {
+            number: slot.number,
+            rule: slot.rule,
+        }
+    }
+
+    // How many controllers ask for a share's change.
+    fn write_agreeing<W: fmt::Write>(&self, f: &mut fmt::Formatter<W>) -> fmt::Result {
+        let Deed {
+            agreeing,
+            replaced,
+            ..
+        } = *self.deed;
+        let change = self.change();
+        let quorum = switch::quorum(self.n);
+        write!(f, "; {change}, has {agreeing} of {quorum} controllers")?;
+        if replaced != 0 && replaced != change.number {
+            write!(f, ", in place of this one's change {replaced}")?;
+        }
+        Ok(())
+    }
+
+    // What a share asks for that was refused, or kept. Only of a made-up one with a tag that does not match the giver of
+    // the tag is looked for.
+    fn write_wish<W: fmt::Write>(&self, f: &mut fmt::Formatter<W>) -> fmt::Result {
+        write!(f, "; the share asks for {}", self.change())?;
+        match (self.deed.item.kind, self.deed.answer) {
+            (Kind::Raw, answer::WRONG_TAG) => write!(f, "{}", TagWords(&self.deed.share)),
+            _ => Ok(()),
         }
     }
 }
 
-fn say_done(out: &mut [u8; OUT], deed: Deed) {
-    let item = deed.item;
-    let kind = item.kind;
-    match kind {
-        Kind::Decide => say_taken(out, deed.numbers, deed.last),
-        Kind::Report => say(out, b"taken"),
-        Kind::Keep => say(out, b"kept"),
-        _ => say(out, b"held"),
-    }
-}
+// Whose key gave a share its tag, if anyone's did.
+#[derive(Clone, Copy)]
+struct TagWords<'a>(&'a Share);
 
-// Whether a record has a controller make a share.
-fn is_making(kind: Kind) -> bool {
-    match kind {
-        Kind::Send => true,
-        Kind::Keep => true,
-        _ => false,
-    }
-}
-
-// Why nothing is ready.
-fn say_reason(out: &mut [u8; OUT], deed: Deed) {
-    let delay = deed.delay;
-    if delay.waiting == 0 {
-        say(out, b": it has no undone change for that switch");
-    } else {
-        say_name(out, b": change", delay.waiting);
-        say_name(out, b" waits for change", delay.awaited);
-        say(out, b" on ");
-        say_switch(out, delay.switch);
-    }
-}
-
-// Which of the ends that a record or a share names there is not, among n controllers.
-fn say_unknown(out: &mut [u8; OUT], n: u8, deed: Deed) {
-    say(out, b"there is no ");
-    if n <= deed.controller {
-        say_controller(out, deed.controller);
-    } else {
-        say_switch(out, deed.switch);
-    }
-}
-
-fn say_refused(out: &mut [u8; OUT], n: u8, deed: Deed) {
-    let item = deed.item;
-    let kind = item.kind;
-    say(out, b"refused, ");
-    if deed.answer == answer::UNKNOWN_ID {
-        say_unknown(out, n, deed);
-        return;
-    }
-    say_meaning(out, kind, deed.answer);
-    if deed.answer == answer::NOTHING_TO_SEND && is_making(kind) {
-        say_reason(out, deed);
-    }
-}
-
-fn say_answer(out: &mut [u8; OUT], n: u8, deed: Deed) {
-    let answer = deed.answer;
-    match answer {
-        answer::DONE => say_done(out, deed),
-        answer::APPLIED => say(out, b"applied"),
-        answer::REPEAT => say(out, b"a repeat, nothing changed"),
-        _ => say_refused(out, n, deed),
-    }
-}
-
-fn by_controller(kind: Kind) -> bool {
-    match kind {
-        Kind::Decide => true,
-        Kind::Report => true,
-        _ => false,
-    }
-}
-
-// What the figure says.
-fn say_figure(out: &mut [u8; OUT], deed: Deed) {
-    let item = deed.item;
-    let kind = item.kind;
-    say(out, b"; ");
-    if by_controller(kind) {
-        say_controller(out, deed.controller);
-        say(out, b" has ");
-        say_count(out, deed.figure);
-    } else {
-        say_last(out, deed.switch, deed.figure);
-    }
-}
-
-// How many controllers ask for a share's change.
-fn say_agreeing(out: &mut [u8; OUT], n: u8, deed: Deed) {
-    let slot = deed.wish.slot;
-    let rule = slot.rule;
-    say(out, b"; ");
-    say_change(out, slot.number, rule);
-    say(out, b", has ");
-    say_number(out, deed.agreeing as u64);
-    say(out, b" of ");
-    say_number(out, switch::quorum(n) as u64);
-    say(out, b" controllers");
-    if deed.replaced != 0 && deed.replaced != slot.number {
-        say_name(out, b", in place of this one's change", deed.replaced);
-    }
-}
-
-// Whose key gave a made-up share a tag that does not match: only here it is looked for.
-fn say_giver(out: &mut [u8; OUT], share: Share) {
-    let bytes = share.bytes;
-    match notation::giver_of(front(&bytes, share.length)) {
-        Giver::Nobody => say(out, b""),
-        Giver::Pair { controller, switch } => {
-            say(out, b", tagged with the key of ");
-            say_controller(out, controller);
-            say(out, b" and ");
-            say_switch(out, switch);
+impl fmt::Display for TagWords<'_> {
+    fn fmt<W: fmt::Write>(&self, f: &mut fmt::Formatter<W>) -> fmt::Result {
+        let share = self.0;
+        match notation::giver_of(lists::front(&share.bytes, share.length)) {
+            None => Ok(()),
+            Some(Pair { controller, switch }) => write!(
+                f,
+                ", tagged with the key of controller {controller} and switch {switch}"
+            ),
         }
     }
 }
 
-// Whether a record has bytes of its own for a switch.
-fn is_raw(kind: Kind) -> bool {
-    match kind {
-        Kind::Raw => true,
-        _ => false,
-    }
+/// Document 01's line: the ordinal, the answer and the figure.
+#[derive(Clone, Copy)]
+pub struct Line {
+    pub ordinal: usize,
+    pub answer: u8,
+    pub figure: u32,
 }
 
-// What a share asks for that was refused, or kept.
-fn say_wish(out: &mut [u8; OUT], deed: Deed) {
-    let item = deed.item;
-    let kind = item.kind;
-    let slot = deed.wish.slot;
-    let rule = slot.rule;
-    let share = deed.share;
-    say(out, b"; the share asks for ");
-    say_change(out, slot.number, rule);
-    if deed.answer == answer::WRONG_TAG && is_raw(kind) {
-        say_giver(out, share);
+impl fmt::Display for Line {
+    fn fmt<W: fmt::Write>(&self, f: &mut fmt::Formatter<W>) -> fmt::Result {
+        write!(f, "{} {} {}", self.ordinal, self.answer, self.figure)
     }
-}
-
-fn say_applied(out: &mut [u8; OUT], rule: Rule) {
-    say(out, b", ");
-    say_rule(out, rule);
-}
-
-fn is_keep(kind: Kind) -> bool {
-    match kind {
-        Kind::Keep => true,
-        _ => false,
-    }
-}
-
-// What is told of a share beside the figure.
-fn say_share(out: &mut [u8; OUT], n: u8, deed: Deed) {
-    let item = deed.item;
-    let kind = item.kind;
-    let slot = deed.wish.slot;
-    let rule = slot.rule;
-    let answer = deed.answer;
-    if is_keep(kind) {
-        say_wish(out, deed);
-        return;
-    }
-    match answer {
-        answer::DONE => say_agreeing(out, n, deed),
-        answer::APPLIED => say_applied(out, rule),
-        answer::REPEAT => say_agreeing(out, n, deed),
-        _ => say_wish(out, deed),
-    }
-}
-
-// A record among n controllers, in words.
-pub fn say_words(out: &mut [u8; OUT], n: u8, deed: Deed) {
-    say_asked(out, deed);
-    say(out, b": ");
-    say_answer(out, n, deed);
-    if deed.begun {
-        say_figure(out, deed);
-        if deed.wish.shared {
-            say_share(out, n, deed);
-        }
-    }
-}
-
-// Document 01's line: the ordinal, the answer and the figure.
-pub fn say_line(out: &mut [u8; OUT], ordinal: usize, answer: u8, figure: u32) {
-    say_number(out, ordinal as u64);
-    say(out, b" ");
-    say_number(out, answer as u64);
-    say(out, b" ");
-    say_number(out, figure as u64);
 }

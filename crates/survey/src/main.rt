@@ -6,79 +6,84 @@
 mod keys;
 mod uses;
 
-ghost use Rattle.std.specs.Prelude.{◌≡◌, ◌+◌, length};
-ghost use Rattle.notation.specs.Limits.{input_limit};
-
 use answer::limits;
+use notation::INPUT;
+use playbook::Playbook;
+use prose::Out;
+use std::fmt;
+use std::fmt::Write;
+use uses::Use;
 
 const STDIN_FILENO: i32 = 0;
-
-use notation::INPUT;
-use prose::{OUT, say, say_number};
 
 // The longest input that has a text, and one byte further to tell a longer one.
 const SPACE: usize = INPUT + 1;
 
-fn for_input() -> [u8; SPACE]
-    ensures { input_limit + 1 ≡ length result }
-{
-    [0u8; SPACE]
-}
-
 // The longest script, in bytes.
 const SCRIPT: usize = 8192;
 
-fn say_numbers(out: &mut [u8; OUT], answer: u8, record: usize) {
-    say_number(out, answer as u64);
-    say(out, b" ");
-    say_number(out, record as u64);
-    say(out, b"\n");
+// An input that is not refused before its script: its playbook, and how many bytes of script follow it.
+#[derive(Clone, Copy)]
+struct Prepared {
+    book: Playbook,
+    script: usize,
 }
 
-fn say_refused(out: &mut [u8; OUT], answer: u8, input: &[u8]) {
-    say_number(out, answer as u64);
-    say(out, b" ");
-    faults::say_record(out, answer, input);
-    say(out, b"\nrefused, ");
-    faults::say_words(out, answer, input, SPACE);
-    say(out, b"\n");
-}
-
-// How many bytes are behind so many.
-fn left(length: usize, used: usize) -> usize {
-    if used <= length { length - used } else { 0 }
-}
-
-// The input's questions in their order: 30, 20, those of the playbook, 28.
-fn survey(out: &mut [u8; OUT], input: &[u8]) {
-    if input.len() == 0 {
-        say_refused(out, answer::CUT_SHORT, input);
-        return;
+// The input's questions in their order: 30, 20, those of the playbook, 28. A refusal is the answer's number.
+fn prepare(input: &[u8]) -> Result<Prepared, u8> {
+    let Some((n, bytes)) = input.split_first() else {
+        return Err(answer::CUT_SHORT);
+    };
+    if !(1..=limits::CONTROLLERS).contains(n) {
+        return Err(answer::LIMITS_BROKEN);
     }
-    let n = input[0];
-    if n == 0 || limits::CONTROLLERS < n {
-        say_refused(out, answer::LIMITS_BROKEN, input);
-        return;
-    }
-    let book = &input[1..];
-    let outcome = playbook::read_first(book);
-    let script = left(book.len(), outcome.used);
+    let outcome = playbook::read_first(bytes);
+    let script = bytes.len().saturating_sub(outcome.used);
     if outcome.answer != answer::DONE {
-        say_refused(out, outcome.answer, input);
+        Err(outcome.answer)
     } else if SCRIPT < script {
-        say_refused(out, answer::SCRIPT_TOO_LONG, input);
+        Err(answer::SCRIPT_TOO_LONG)
     } else {
-        let found = outcome.playbook;
-        say_numbers(out, answer::DONE, uses::records_of(found));
-        uses::say_uses(out, found);
-        uses::say_use(out, b"bytes of script", script, SCRIPT);
+        let book = outcome.playbook;
+        Ok(Prepared { book, script })
     }
 }
 
-fn main() {
-    let mut out = [0u8; OUT];
-    let mut space = for_input();
+fn say_refused(out: &mut Out, answer: u8, input: &[u8]) -> fmt::Result {
+    let record = faults::RecordOrdinal { answer, input };
+    let room = SPACE;
+    let why = faults::Words {
+        answer,
+        input,
+        room,
+    };
+    writeln!(out, "{answer} {record}\nrefused, {why}")
+}
+
+fn say_prepared(out: &mut Out, found: &Prepared) -> fmt::Result {
+    let records = uses::records_of(&found.book);
+    writeln!(out, "{} {records}", answer::DONE)?;
+    uses::say_uses(out, &found.book)?;
+    let script = Use {
+        used: found.script,
+        most: SCRIPT,
+        what: "bytes of script",
+    };
+    writeln!(out, "{script}")
+}
+
+fn survey(out: &mut Out, input: &[u8]) -> fmt::Result {
+    match prepare(input) {
+        Ok(found) => say_prepared(out, &found),
+        Err(answer) => say_refused(out, answer, input),
+    }
+}
+
+fn main() -> fmt::Result {
+    let mut out = Out::new();
+    let mut space = [0u8; SPACE];
     let n = io::read_full(STDIN_FILENO, &mut space);
-    survey(&mut out, &space[..n]);
-    prose::say_end(&mut out);
+    let said = survey(&mut out, &space[..n]);
+    out.end();
+    said
 }

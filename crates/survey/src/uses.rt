@@ -1,91 +1,92 @@
 // What a playbook uses of each limit, a line each.
-use crate::keys::{Counts, keys_in};
+use crate::keys::keys_on;
 use answer::limits;
-use playbook::{Plan, Playbook};
-use prose::{OUT, say, say_number};
+use playbook::{Change, Plan, Playbook};
+use prose::Out;
+use std::fmt;
+use std::fmt::Write;
+
+// How much of a limit is used.
+#[derive(Clone, Copy)]
+pub(crate) struct Use {
+    pub(crate) used: usize,
+    pub(crate) most: usize,
+    pub(crate) what: &'static str,
+}
+
+impl fmt::Display for Use {
+    fn fmt<W: fmt::Write>(&self, f: &mut fmt::Formatter<W>) -> fmt::Result {
+        write!(f, "{} of {} {}", self.used, self.most, self.what)
+    }
+}
 
 // How many records a playbook has: its plans, its changes and its end.
-pub(crate) fn records_of(book: Playbook) -> usize {
-    let planned = book.planned;
-    let listed = book.listed;
-    if playbook::limits::PLANS < planned {
-        return 0;
+pub(crate) fn records_of(book: &Playbook) -> usize {
+    book.planned.saturating_add(book.listed).saturating_add(1)
+}
+
+// The first plan with the most changes, if any has one.
+fn longest(book: &Playbook) -> Option<Plan> {
+    book.plans
+        .iter()
+        .take(book.planned)
+        .copied()
+        .filter(|plan| plan.count != 0)
+        .reduce(|first, plan| if first.count < plan.count {
+            plan
+        } else {
+            first
+        })
+}
+
+fn say_longest(out: &mut Out, book: &Playbook) -> fmt::Result {
+    let found = longest(book);
+    let in_one = Use {
+        used: found.map_or(0, |plan| plan.count),
+        most: playbook::limits::CHANGES_OF_PLAN,
+        what: "changes in one plan",
+    };
+    match found {
+        None => writeln!(out, "{in_one}"),
+        Some(plan) => writeln!(
+            out,
+            "{in_one}, that of switch {} and cause {}",
+            plan.switch, plan.cause
+        ),
     }
-    if playbook::limits::CHANGES < listed {
-        return 0;
-    }
-    planned + listed + 1
 }
 
-fn say_of(out: &mut [u8; OUT], used: usize, most: usize) {
-    say_number(out, used as u64);
-    say(out, b" of ");
-    say_number(out, most as u64);
-}
-
-pub(crate) fn say_use(out: &mut [u8; OUT], what: &[u8], used: usize, most: usize) {
-    say_of(out, used, most);
-    say(out, b" ");
-    say(out, what);
-    say(out, b"\n");
-}
-
-fn longer(a: Plan, b: Plan) -> Plan {
-    if a.count < b.count { b } else { a }
-}
-
-// The first plan with the most changes.
-fn longest(book: Playbook) -> Plan {
-    let plans = book.plans;
-    let planned = book.planned;
-    let mut found = plans[0];
-    let mut i: usize = 0;
-    while i < playbook::limits::PLANS {
-        if i < planned {
-            let next = longer(found, plans[i]);
-            found = next;
+fn say_keys(out: &mut Out, book: &Playbook) -> fmt::Result {
+    for switch in 0..limits::SWITCHES {
+        let on_switch = Use {
+            used: keys_on(switch, changes_of(book)),
+            most: playbook::limits::KEYS,
+            what: "prefixes with lengths on switch",
+        };
+        if on_switch.used != 0 {
+            writeln!(out, "{on_switch} {switch}")?;
         }
-        i += 1;
     }
-    found
+    Ok(())
 }
 
-fn say_longest(out: &mut [u8; OUT], book: Playbook) {
-    let plan = longest(book);
-    say_of(out, plan.count, playbook::limits::CHANGES_OF_PLAN);
-    say(out, b" changes in one plan");
-    if plan.count != 0 {
-        say(out, b", that of switch ");
-        say_number(out, plan.switch as u64);
-        say(out, b" and cause ");
-        say_number(out, plan.cause as u64);
-    }
-    say(out, b"\n");
+// The changes of the playbook.
+fn changes_of(book: &Playbook) -> &[Change] {
+    book.changes.get(..book.listed).unwrap_or(&[])
 }
 
-fn say_keys_on(out: &mut [u8; OUT], switch: usize, count: usize) {
-    if count != 0 {
-        say_of(out, count, playbook::limits::KEYS);
-        say(out, b" prefixes with lengths on switch ");
-        say_number(out, switch as u64);
-        say(out, b"\n");
-    }
-}
-
-fn say_keys(out: &mut [u8; OUT], counts: Counts) {
-    let on = counts.on;
-    let mut i: usize = 0;
-    while i < limits::OF_SWITCHES {
-        say_keys_on(out, i, on[i]);
-        i += 1;
-    }
-}
-
-pub(crate) fn say_uses(out: &mut [u8; OUT], book: Playbook) {
-    let changes = book.changes;
-    let listed = book.listed;
-    say_use(out, b"plans", book.planned, playbook::limits::PLANS);
-    say_use(out, b"changes", listed, playbook::limits::CHANGES);
-    say_longest(out, book);
-    say_keys(out, keys_in(changes, listed));
+pub(crate) fn say_uses(out: &mut Out, book: &Playbook) -> fmt::Result {
+    let plans = Use {
+        used: book.planned,
+        most: playbook::limits::PLANS,
+        what: "plans",
+    };
+    let changes = Use {
+        used: book.listed,
+        most: playbook::limits::CHANGES,
+        what: "changes",
+    };
+    writeln!(out, "{plans}\n{changes}")?;
+    say_longest(out, book)?;
+    say_keys(out, book)
 }

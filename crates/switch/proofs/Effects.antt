@@ -10,21 +10,19 @@ use lib.Count.{ones}
 use lib.ListN.{length, get_or, set, get_or-map}
 use lib.Seq.{get_or-set_same, get_or-set_other, map-set_same}
 use borrow.Author.Tests.{ltb-true, leb-true, leb-false, le-leb, lt-leb}
+use Rattle.std.specs.Prelude.{Option, Some, None, Result, Ok, Err}
 use Rattle.answer.specs.Ask.{Numbered, reply, first_no}
 use Rattle.answer.proofs.Asked.{none_asked, asked, reply_ap, answered, reply-from, reply-keeps}
 use Rattle.flow.specs.Tables.{entries_of}
 use Rattle.flow.specs.Changes.{changed}
 use Rattle.flow.specs.Lookups.{lookup_of, found_said}
-use Rattle.flow.specs.declared.Found.{Found}
-use Rattle.flow.specs.declared.Found.TheVariants as found
+use Rattle.std.specs.Prelude.{Option, Some, None}
 use Rattle.switch.specs.Slots.{quorum_of, empty_slot, holds, agreeing, emptied}
 use Rattle.switch.specs.States.{switch_ok}
 use Rattle.switch.specs.Shares.{slot_of, stored}
 use Rattle.switch.specs.Receiving.{received_by}
 use Rattle.switch.specs.Raising.{next_event, with_event, raised_by}
-use Rattle.switch.specs.Lookups.{looked, looked_up, looked_said}
-use Rattle.switch.specs.declared.Looked.{Looked}
-use Rattle.switch.specs.declared.Looked.TheVariants.{Refused, Nothing, Port}
+use Rattle.switch.specs.Lookups.{looked_up, looked_said}
 use Rattle.switch.specs.declared.Raised.{Raised}
 use Rattle.switch.specs.declared.Reply.{Reply}
 use Rattle.switch.specs.declared.Slot.{Slot}
@@ -215,28 +213,26 @@ event-refused e x =
     reply-keeps (λ (r : Stepped). (r.answer ≡ 0 → ⊥) → r.raised ≡ e) _ _ _ (λ k n. refl) (λ l n. absurd (n refl))
 
 -- what a lookup found is what flow's lookup found
-found_said_lem : (f : Found) → looked_said (looked f) ≡ found_said f
-found_said_lem (found.Port port) = refl
-found_said_lem found.Nothing = refl
+found_said_lem : (f : Option ℕ) → looked_said (Ok f) ≡ found_said f
+found_said_lem (Some port) = refl
+found_said_lem None = refl
 
-no_number : (f : Found) → (found_said f).0 ≡ 0
-no_number (found.Port port) = refl
-no_number found.Nothing = refl
+no_number : (f : Option ℕ) → (found_said f).0 ≡ 0
+no_number (Some port) = refl
+no_number None = refl
 
-port_found : {port : ℕ} (f : Found) → looked f ≡ Port port → f ≡ found.Port port
-port_found (found.Port port) h = cc
-port_found found.Nothing h = cc
+abbrev OkOf : Option ℕ → Result (Option ℕ) ℕ
+OkOf o = Ok o
 
-none_found : (f : Found) → looked f ≡ Nothing → f ≡ found.Nothing
-none_found (found.Port port) h = cc
-none_found found.Nothing h = refl
+inside : (o q : Option ℕ) → OkOf o ≡ OkOf q → o ≡ q
+inside o q h = cc
 
 module _ (s : Switch) (a : ℕ) where
   -- a lookup asks question 20, and then it is flow's lookup in the entries
   pub looked_said_lem : looked_said (looked_up s a)
       ≡ reply ((20, switch_ok s) ∷ []) (λ k. (k, [])) (found_said (lookup_of a (entries_of s.table)))
   looked_said_lem =
-      reply_ap looked_said _ Refused _
+      reply_ap looked_said _ Err _
       ∙ ap (reply ((20, switch_ok s) ∷ []) (λ k. (k, []))) (found_said_lem (lookup_of a (entries_of s.table)))
 
   looked-number : (looked_said (looked_up s a)).0 ≡ first_no ((20, switch_ok s) ∷ [])
@@ -244,16 +240,16 @@ module _ (s : Switch) (a : ℕ) where
       ap (λ (x : Numbered). x.0) looked_said_lem ∙ reply_ap (λ (x : Numbered). x.0) _ _ _
       ∙ ap (reply _ (λ k. k)) (no_number (lookup_of a (entries_of s.table)))
 
-  pub looked-good : switch_ok s ≡ true → looked_up s a ≡ looked (lookup_of a (entries_of s.table))
-  looked-good y = asked Refused _ 20 _ [] y ∙ none_asked Refused _
+  pub looked-good : switch_ok s ≡ true → looked_up s a ≡ Ok (lookup_of a (entries_of s.table))
+  looked-good y = asked Err _ 20 _ [] y ∙ none_asked Err _
 
   passing : (looked_said (looked_up s a)).0 ≡ 0 → switch_ok s ≡ true
   passing h = answered _ refl (sym looked-number ∙ h) 20
 
-  pub looked-port : {port : ℕ} → looked_up s a ≡ Port port
-      → (switch_ok s ≡ true) × (lookup_of a (entries_of s.table) ≡ found.Port port)
-  looked-port h = let y = passing (ap (λ (l : Looked). (looked_said l).0) h) in (y, port_found _ (sym (looked-good y) ∙ h))
+  pub looked-port : {port : ℕ} → looked_up s a ≡ Ok (Some port)
+      → (switch_ok s ≡ true) × (lookup_of a (entries_of s.table) ≡ Some port)
+  looked-port h = let y = passing (ap (λ (l : Result (Option ℕ) ℕ). (looked_said l).0) h) in (y, inside _ _ (sym (looked-good y) ∙ h))
 
-  pub looked-nothing : looked_up s a ≡ Nothing
-      → (switch_ok s ≡ true) × (lookup_of a (entries_of s.table) ≡ found.Nothing)
-  looked-nothing h = let y = passing (ap (λ (l : Looked). (looked_said l).0) h) in (y, none_found _ (sym (looked-good y) ∙ h))
+  pub looked-nothing : looked_up s a ≡ Ok None
+      → (switch_ok s ≡ true) × (lookup_of a (entries_of s.table) ≡ None)
+  looked-nothing h = let y = passing (ap (λ (l : Result (Option ℕ) ℕ). (looked_said l).0) h) in (y, inside _ _ (sym (looked-good y) ∙ h))

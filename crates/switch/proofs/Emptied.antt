@@ -1,18 +1,14 @@
--- Slots emptied from the first on: a turn of the loop, and its end, where the rest is empty already. Assumes nothing.
-use mathlib.Core.Path.{◌≡◌, refl, sym, ap, ◌∙◌}
-use mathlib.Core.Bool.{true}
-use mathlib.Core.List.{List, [], ◌∷◌, ◌++◌, map}
+-- Slots emptied from the first on: a turn of the loop. Assumes nothing.
+use mathlib.Core.Path.{◌≡◌, sym, ◌∙◌}
+use mathlib.Core.List.{List, ◌++◌, map}
 use Prim.Native.Nat.{ℕ, suc, ◌+◌, ◌≤◌, ◌<◌}
 use native.Mathlib.Omega.{arith}
-use lib.ListN.{length, take, drop, get_or, set, length-map, get_or-map, take-append-drop}
+use lib.ListN.{length, take, drop, get_or, set, length-map, get_or-map}
 use lib.Seq.{drop-cons, get_or_at, set-get_or, length-take-le}
 use borrow.Author.Tests.{le-leb, lt-leb}
-use Rattle.answer.proofs.Bools.{and_parts}
-use Rattle.lists.specs.Arrays.{every}
-use Rattle.lists.proofs.Stores.{store, drop-map}
-use Rattle.switch.specs.Slots.{empty_slot, slot_empty, emptied}
+use Rattle.lists.proofs.Stores.{store}
+use Rattle.switch.specs.Slots.{empty_slot, emptied}
 use Rattle.switch.specs.declared.Slot.{Slot}
-use Rattle.switch.proofs.Agreement.{holds_sound}
 
 -- the slots when the first i have been emptied
 abbrev pub emptied_to : ℕ → ℕ → List Slot → List Slot
@@ -43,21 +39,3 @@ module _ (number : ℕ) where
         → emptied_to number i slots ≡ emptied_to number (i + 1) slots
     high h =
         sym (set-get_or (emptied_to number i slots) i empty_slot) ∙ rw untouched (stored _ (rw (lt-leb _ _ h)))
-
-  -- empty slots stay so
-  all_empty : (slots : List Slot) → every slot_empty slots ≡ true → map (emptied number) slots ≡ slots
-  unfolding every
-  all_empty [] h = refl
-  all_empty (slot ∷ slots) h =
-      let t = and_parts (slot_empty slot) _ h in
-      let none = holds_sound empty_slot slot t.0 in
-      let stays : emptied number empty_slot ≡ empty_slot = rw (le-leb 0 number (omega arith)) in
-      let kept = ap (emptied number) none ∙ stays ∙ sym none in
-      rw (kept, all_empty slots t.1)
-
-  pub emptied_all : (slots : List Slot) (n : ℕ) → every slot_empty (drop n slots) ≡ true
-      → emptied_to number n slots ≡ map (emptied number) slots
-  emptied_all slots n h =
-      ap (λ (l : List Slot). take n (map (emptied number) slots) ++ l)
-      (sym (drop-map (emptied number) n slots ∙ all_empty (drop n slots) h))
-      ∙ take-append-drop n (map (emptied number) slots)

@@ -1,4 +1,4 @@
--- Laws of the switch end. Bits, Emptied and Steps are for this crate's own functions.
+-- Laws of the switch end. Bits, Chains, Emptied and Steps are for this crate's own functions.
 pub mod Within
 pub mod Passing
 pub mod Taken
@@ -11,5 +11,6 @@ pub mod Once
 pub mod Senders
 pub mod Latest
 mod Bits
+mod Chains
 mod Emptied
 mod Steps

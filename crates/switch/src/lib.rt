@@ -21,6 +21,7 @@ pub use states::setup;
 pub use writing::{write_acknowledgement, write_event};
 
 // A share's number and rule. A slot holds the latest share from its controller; number 0 marks an empty slot.
+// Stays: no Option, since a caller's state may have number 0 beside a rule, and `slot_ok` answers 20 to that.
 #[derive(Clone, Copy)]
 pub struct Slot {
     pub number: u32,
@@ -28,6 +29,7 @@ pub struct Slot {
 }
 
 // The last raised event; serial 0 if none was raised.
+// Stays: no Option, since a caller's state may have serial 0 beside a cause, and `raised_by` keeps it where it refuses.
 #[derive(Clone, Copy)]
 pub struct Raised {
     pub serial: u32,
@@ -51,14 +53,6 @@ pub struct Switch {
 pub struct Reply {
     pub answer: u8,
     pub state: Switch,
-}
-
-// What a lookup gives: the number of the question that refuses the state, no entry, or the port.
-#[derive(Clone, Copy)]
-pub enum Looked {
-    Refused(u8),
-    Nothing,
-    Port(u16),
 }
 
 // What raising does to the last raised event: 0 and the next one, or a question's number and the event as it was.

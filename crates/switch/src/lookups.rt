@@ -1,21 +1,17 @@
 // Lookup in the table of a switch.
+#![tactic(auto, unfolding(answer::specs::Ask::reply))]
+
 ghost use Rattle.std.specs.Prelude.{◌≡◌};
 ghost use Rattle.switch.specs.Lookups.{looked_up};
 
-use crate::states::switch_ok;
-use crate::{Looked, Switch};
-use flow::Found;
+use crate::Switch;
 
-// Question 20; then the port of the longest entry that covers an address, or none.
-pub fn lookup(s: Switch, address: u32) -> Looked
+// Question 20, or its number as the error; then the port of the longest entry that covers an address, or none.
+pub fn lookup(s: Switch, address: u32) -> Result<Option<u16>, u8>
     ensures { result ≡ looked_up s address }
 {
-    if !switch_ok(s) {
-        return Looked::Refused(answer::LIMITS_BROKEN);
+    if !s.is_ok() {
+        return Err(answer::LIMITS_BROKEN);
     }
-    let table = s.table;
-    match flow::lookup(table, address) {
-        Found::Port(port) => Looked::Port(port),
-        Found::Nothing => Looked::Nothing,
-    }
+    Ok(flow::lookup(s.table, address))
 }

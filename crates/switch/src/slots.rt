@@ -3,7 +3,7 @@ ghost use Rattle.std.specs.Prelude.{◌≡◌, true, ◌&&◌, map, ◌≤◌, t
 ghost use Rattle.std.specs.Int.Count.{ones};
 ghost use Rattle.answer.specs.Limits.{most_controllers};
 ghost use Rattle.lists.specs.Arrays.{every};
-ghost use Rattle.switch.specs.Slots.{quorum_of, empty_slot, slot_empty, slot_ok, holds, agreeing, is_quorum, emptied};
+ghost use Rattle.switch.specs.Slots.{quorum_of, slot_empty, slot_ok, holds, agreeing, is_quorum, emptied};
 
 use crate::{Slot, limits};
 use flow::{Action, Rule};
@@ -12,137 +12,84 @@ use flow::{Action, Rule};
 pub fn quorum(n: u8) -> u32
     ensures { result ≡ quorum_of n }
 {
-    if n == 0 {
-        return 1;
-    }
-    let q = (n - 1) / 3 + 1;
-    q as u32
+    (n.saturating_sub(1) / 3 + 1) as u32
 }
 
-pub(crate) fn empty_slot() -> Slot
-    ensures { result ≡ empty_slot }
-{
-    Slot {
+impl Slot {
+    pub(crate) const EMPTY: Slot = Slot {
         number: 0,
         rule: Rule {
             prefix: 0,
             length: 0,
             action: Action::Remove,
         },
-    }
-}
+    };
 
-fn slot_empty(slot: Slot) -> bool
-    ensures { result ≡ slot_empty slot }
-{
-    if slot.number == 0 {
-        let rule = slot.rule;
-        flow::rule_empty(rule)
-    } else {
-        false
+    // Whether it holds a share.
+    pub(crate) fn holds(&self, share: &Slot) -> bool
+        ensures { result ≡ holds share.now self.now }
+    {
+        self.number == share.number && flow::same_rule(self.rule, share.rule)
     }
-}
 
-fn slot_ok(slot: Slot, last: u32) -> bool
-    ensures { result ≡ slot_ok last slot }
-{
-    if last < slot.number {
-        true
-    } else {
-        slot_empty(slot)
+    fn is_empty(&self) -> bool
+        ensures { result ≡ slot_empty self.now }
+    {
+        self.holds(&Slot::EMPTY)
+    }
+
+    // Whether it is empty, or its number is above the last applied one.
+    fn is_ok(&self, last: u32) -> bool
+        ensures { result ≡ slot_ok last self.now }
+    {
+        last < self.number || self.is_empty()
     }
 }
 
 // Whether the first n slots are empty, or hold numbers above the last applied one, and the slots from n on are empty.
-pub(crate) fn slots_ok(slots: [Slot; limits::CONTROLLERS], n: usize, last: u32) -> bool
+pub(crate) fn slots_ok(slots: &[Slot; limits::CONTROLLERS], n: usize, last: u32) -> bool
     requires { n ≤ most_controllers }
-    ensures { result ≡ (every (slot_ok last) (take n slots) && every slot_empty (drop n slots)) }
+    ensures { result
+        ≡ (every (slot_ok last) (take n slots.now) && every slot_empty (drop n slots.now)) }
 {
-    let mut i: usize = 0;
-    while i < n {
-        let slot = slots[i];
-        if !slot_ok(slot, last) {
-            return false;
-        }
-        i += 1;
-    }
-    while i < limits::CONTROLLERS {
-        let slot = slots[i];
-        if !slot_empty(slot) {
-            return false;
-        }
-        i += 1;
-    }
-    true
+    let (used, unused) = slots.split_at(n);
+    used.iter().all(|slot| slot.is_ok(last)) && unused.iter().all(|slot| slot.is_empty())
 }
 
-// Whether a slot holds a share.
-pub(crate) fn does_hold(slot: Slot, share: Slot) -> bool
-    ensures { result ≡ holds share slot }
+// The controllers whose slots hold a share, controller c at bit c.
+fn agreeing_set(slots: &[Slot; limits::CONTROLLERS], share: &Slot) -> u16
+    ensures { result ≡ agreeing share.now slots.now }
 {
-    if slot.number == share.number {
-        let held = slot.rule;
-        let rule = share.rule;
-        flow::same_rule(held, rule)
-    } else {
-        false
-    }
-}
-
-// The controllers whose slots hold this share, controller c at bit c: from the last to the first.
-fn agreeing_set(slots: [Slot; limits::CONTROLLERS], share: Slot) -> u16
-    ensures { result ≡ agreeing share slots }
-{
-    let mut bits: u16 = 0;
-    let mut i = limits::CONTROLLERS;
-    while 0 < i {
-        i -= 1;
-        let slot = slots[i];
-        if does_hold(slot, share) {
-            bits = bits * 2 + 1;
-        } else {
-            bits = bits * 2;
+    let mut set = 0;
+    for (c, slot) in slots.iter().enumerate() {
+        if slot.holds(share) {
+            set |= 1 << c;
         }
     }
-    bits
+    set
 }
 
 // How many controllers have this share in their slots.
 pub fn agreeing(slots: [Slot; limits::CONTROLLERS], share: Slot) -> u32
     ensures { result ≡ ones (agreeing share slots) }
 {
-    let bits = agreeing_set(slots, share);
-    u16::count_ones(bits)
+    agreeing_set(&slots, &share).count_ones()
 }
 
 // Whether as many controllers agree as n controllers need.
-pub(crate) fn is_quorum(n: u8, slots: [Slot; limits::CONTROLLERS], share: Slot) -> bool
-    ensures { result ≡ is_quorum n share slots }
+pub(crate) fn is_quorum(n: u8, slots: &[Slot; limits::CONTROLLERS], share: &Slot) -> bool
+    ensures { result ≡ is_quorum n share.now slots.now }
 {
-    let bits = agreeing_set(slots, share);
-    let needed = quorum(n);
-    needed <= u16::count_ones(bits)
+    quorum(n) <= agreeing_set(slots, share).count_ones()
 }
 
-// The slots, those with this number or a lower one emptied; from n on they are empty already.
-pub(crate) fn emptied_slots(
-    slots: [Slot; limits::CONTROLLERS],
-    n: usize,
-    number: u32,
-) -> [Slot; limits::CONTROLLERS]
-    requires { (n ≤ most_controllers) × (every slot_empty (drop n slots) ≡ true) }
-    ensures { result ≡ map (emptied number) slots }
+// Slots with this number or a lower one are emptied.
+pub(crate) fn empty_up_to(slots: &mut [Slot], number: u32)
+    ensures { slots.new ≡ map (emptied number) slots.old }
 {
-    let empty = empty_slot();
-    let mut out = slots;
-    let mut i: usize = 0;
-    while i < n {
-        let at = i;
-        i += 1;
-        let slot = out[at];
+    for slot in slots.iter_mut() {
         if slot.number <= number {
-            out[at] = empty;
+            *slot = Slot::EMPTY;
         }
     }
-    out
 }

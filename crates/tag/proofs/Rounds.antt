@@ -29,18 +29,11 @@ schedule-step m w t x l h i e =
     let q : 16 + (t - 16) ≡ t = omega arith in
     rw (p, add-one, take-suc-set, q, ← i, next-take w t l, e)
 
-pub two_rounds : (w k : List ℕ) (t : ℕ) (s : State) {n r : State} → k ≡ K → n ≡ round (get_or k t 0) (get_or w t 0) s
-    → r ≡ round (get_or k (t + 1) 0) (get_or w (t + 1) 0) n → Rounds w t s (t + 2) r
+-- one round more
+pub round_more : (w k : List ℕ) (t u : ℕ) (s : State) {n r : State} → k ≡ K → Rounds w t s u n
+    → r ≡ round (get_or k u 0) (get_or w u 0) n → Rounds w t s (u + 1) r
 unfolding rounds
-two_rounds w k t s e p q i h =
-    let a : t + 1 ≡ suc t = omega arith in
-    let b : t + 2 ≡ suc (suc t) = omega arith in
-    rw (b, q, p, h, e, a)
-
--- two rounds more
-pub two_more : (w : List ℕ) (t u v : ℕ) {s n r : State} → Rounds w t s u n → Rounds w u n (u + 2) r → u + 2 ≡ v
-    → Rounds w t s v r
-two_more w t u v p q e i h = q i (p i h) ∙ ap (rounds i w) e
+round_more w k t u s e before q i h = let next : u + 1 ≡ suc u = omega arith in rw (next, q, before i h, e)
 
 -- where more words stay, so do fewer
 pub fewer : (n t : ℕ) (w v : List ℕ) → n ≤ t → take t v ≡ take t w → take n v ≡ take n w

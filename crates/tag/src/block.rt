@@ -1,10 +1,9 @@
-// The hash of one block: FIPS 180-4, 6.2.2. For speed the constants are copied out of their table once, and rounds are
-// unrolled by eight.
+// The hash of one block: FIPS 180-4, 6.2.2. For speed eight rounds are made at a time.
 ghost use Rattle.std.specs.Prelude.{◌≡◌, ◌+◌, ◌<◌, ◌≤◌, length, take};
 ghost use Rattle.tag.specs.Sha256 as sha;
 ghost use Rattle.tag.specs.Unrolled as unrolled;
 
-use crate::bits::{add, big0, big1, ch, maj, small0, small1};
+use crate::bits::{big0, big1, ch, maj, small0, small1};
 
 // Eight words: the hash value, or the working variables of a round.
 #[derive(Clone, Copy)]
@@ -87,18 +86,12 @@ const K: [u32; 64] = [
     0xc671_78f2,
 ];
 
-fn wide(x: u8) -> u32
-    ensures { (result ≡ x) × (result < 256) }
-{
-    x as u32
-}
-
 // The word that four bytes are, the first the highest.
 fn word(m: &[u8], i: usize) -> u32
     requires { i + 4 ≤ length m.now }
     ensures { result ≡ sha.word m.now i }
 {
-    wide(m[i]) * 0x100_0000 + wide(m[i + 1]) * 0x1_0000 + wide(m[i + 2]) * 0x100 + wide(m[i + 3])
+    u32::from_be_bytes([m[i], m[i + 1], m[i + 2], m[i + 3]])
 }
 
 // The words of a block, before the rest of the schedule.
@@ -107,22 +100,21 @@ fn words(m: &[u8]) -> [u32; 64]
     ensures { take 16 result ≡ sha.words m.now 16 }
 {
     let mut w = [0u32; 64];
-    let mut t: usize = 0;
-    while t < 16 {
+    for t in 0..16 {
         w[t] = word(m, 4 * t);
-        t += 1;
     }
     w
 }
 
+#[tactic(auto, unfolding(crate::specs::Sha256::next))]
 fn next(w: &[u32; 64], t: usize) -> u32
     requires { (16 ≤ t) × (t < 64) }
     ensures { result ≡ sha.next w.now t }
 {
-    add(
-        add(add(small1(w[t - 2]), w[t - 7]), small0(w[t - 15])),
-        w[t - 16],
-    )
+    small1(w[t - 2])
+        .wrapping_add(w[t - 7])
+        .wrapping_add(small0(w[t - 15]))
+        .wrapping_add(w[t - 16])
 }
 
 // Eight words more of a schedule, from word t on.
@@ -130,82 +122,73 @@ fn extend(w: &mut [u32; 64], t: usize)
     requires { (16 ≤ t) × (t + 8 ≤ 64) × (length w.old ≡ 64) }
     ensures { (length w.new ≡ 64) × unrolled.Extends w.old t w.new }
 {
-    let mut i = t;
-    while i < t + 8 {
-        let x = next(w, i);
-        w[i] = x;
-        i += 1;
+    for i in t..t + 8 {
+        w[i] = next(w, i);
     }
 }
 
+#[tactic(auto, unfolding(crate::specs::Sha256::round))]
 fn round(s: State, k: u32, w: u32) -> State
     ensures { result ≡ sha.round k w s }
 {
-    let t1 = add(add(add(add(s.h, big1(s.e)), ch(s.e, s.f, s.g)), k), w);
-    let t2 = add(big0(s.a), maj(s.a, s.b, s.c));
+    let t1 = s
+        .h
+        .wrapping_add(big1(s.e))
+        .wrapping_add(ch(s.e, s.f, s.g))
+        .wrapping_add(k)
+        .wrapping_add(w);
+    let t2 = big0(s.a).wrapping_add(maj(s.a, s.b, s.c));
     State {
-        a: add(t1, t2),
+        a: t1.wrapping_add(t2),
         b: s.a,
         c: s.b,
         d: s.c,
-        e: add(s.d, t1),
+        e: s.d.wrapping_add(t1),
         f: s.e,
         g: s.f,
         h: s.g,
     }
 }
 
-// Two rounds from round t on, and eight.
-fn two(s: State, k: &[u32; 64], w: &[u32; 64], t: usize) -> State
-    requires { (t + 2 ≤ 64) × (k.now ≡ sha.K) }
-    ensures { unrolled.Rounds w.now t s (t + 2) result }
-{
-    let n = round(s, k[t], w[t]);
-    round(n, k[t + 1], w[t + 1])
-}
-
-fn eight(s: State, k: &[u32; 64], w: &[u32; 64], t: usize) -> State
-    requires { (t + 8 ≤ 64) × (k.now ≡ sha.K) }
+// Eight rounds from round t on.
+fn eight(mut s: State, w: &[u32; 64], t: usize) -> State
+    requires { t + 8 ≤ 64 }
     ensures { unrolled.Rounds w.now t s (t + 8) result }
 {
-    let a = two(s, k, w, t);
-    let b = two(a, k, w, t + 2);
-    let c = two(b, k, w, t + 4);
-    two(c, k, w, t + 6)
+    for i in t..t + 8 {
+        s = round(s, K[i], w[i]);
+    }
+    s
 }
 
 // The rounds of a block whose words stand first. Eight words more of the schedule are made after each eight rounds, while
 // these are still under way in the processor.
-fn rounds(s: State, m: [u32; 64]) -> State
-    ensures { result ≡ sha.rounds s (sha.schedule (take 16 m) 48) 64 }
+fn rounds(mut s: State, mut w: [u32; 64]) -> State
+    ensures { result ≡ sha.rounds s (sha.schedule (take 16 w) 48) 64 }
 {
-    let k = K;
-    let mut w = m;
-    let mut r = s;
-    let mut t: usize = 0;
-    while t < 64 {
-        let n = eight(r, &k, &w, t);
-        r = n;
+    for turn in 0..8 {
+        let t = 8 * turn;
+        s = eight(s, &w, t);
         if t < 48 {
             extend(&mut w, t + 16);
         }
-        t += 8;
     }
-    r
+    s
 }
 
+#[tactic(auto, unfolding(crate::specs::Sha256::sums))]
 fn sums(s: State, r: State) -> State
     ensures { result ≡ sha.sums s r }
 {
     State {
-        a: add(s.a, r.a),
-        b: add(s.b, r.b),
-        c: add(s.c, r.c),
-        d: add(s.d, r.d),
-        e: add(s.e, r.e),
-        f: add(s.f, r.f),
-        g: add(s.g, r.g),
-        h: add(s.h, r.h),
+        a: s.a.wrapping_add(r.a),
+        b: s.b.wrapping_add(r.b),
+        c: s.c.wrapping_add(r.c),
+        d: s.d.wrapping_add(r.d),
+        e: s.e.wrapping_add(r.e),
+        f: s.f.wrapping_add(r.f),
+        g: s.g.wrapping_add(r.g),
+        h: s.h.wrapping_add(r.h),
     }
 }
 

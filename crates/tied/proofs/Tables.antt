@@ -12,7 +12,7 @@ use Rattle.rehearsal.specs.declared.Kind.{Kind}
 use Rattle.rehearsal.specs.declared.Kind.TheVariants.{Decide, Send, Report, Raw, Keep, Deliver}
 use Rattle.notation.specs.Fields.{width_of, widths}
 use Rattle.notation.specs.Kinds as notation
-use Rattle.notation.specs.declared.Field.TheVariants as fields
+use Rattle.notation.specs.declared.fields.Field.TheVariants as fields
 use Rattle.tied.specs.Sizes.{from, every_byte, size_read, byte_of}
 use Rattle.tied.specs.Places.{place_among, place_of, rule_width, script_read, plan_read, change_read}
 

@@ -13,12 +13,11 @@ use Rattle.rehearsal.specs.declared.Record.{Record}
 use Rattle.notation.specs.Fields.{width_of}
 use Rattle.notation.specs.Kinds.{plan_kind, change_kind, decide_kind, send_kind, report_kind, raw_kind, keep_kind}
 use Rattle.notation.specs.Kinds.{deliver_kind, fields_of}
-use Rattle.notation.specs.declared.Field.{Field}
-use Rattle.notation.specs.declared.Field.TheVariants as fields
+use Rattle.notation.specs.declared.fields.Field.{Field}
+use Rattle.notation.specs.declared.fields.Field.TheVariants as fields
 
 -- a number for each field, by which two are compared
 abbrev number : Field → ℕ
-number fields.Nothing = 0
 number fields.Flow = 1
 number fields.Switch = 2
 number fields.Cause = 3

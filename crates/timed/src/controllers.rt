@@ -15,10 +15,7 @@ struct Called {
 
 // A controller with the playbook that bytes are.
 fn set_up(id: u8, n: u8, book: &[u8]) -> Controller {
-    let outcome = playbook::read(book);
-    let p = outcome.playbook;
-    let r = controller::setup(id, n, p);
-    r.state
+    controller::setup(id, n, playbook::read(book).playbook).state
 }
 
 // Acknowledgements received one after another, the bytes of each behind those of the one before.
@@ -30,46 +27,37 @@ fn receive_all(
 ) -> Called {
     let mut state = controller;
     let mut sum = before;
-    let mut at: usize = 0;
-    while ACKNOWLEDGEMENT <= acknowledgements.len() - at {
-        let end = at + ACKNOWLEDGEMENT;
-        let r = controller::receive(state, keys, &acknowledgements[at..end]);
-        let next = r.state;
-        state = next;
+    for acknowledgement in acknowledgements.chunks_exact(ACKNOWLEDGEMENT) {
+        let r = controller::receive(state, keys, acknowledgement);
+        state = r.state;
         sum = mix(sum, r.answer as u32);
-        at = end;
     }
-    Called {
-        state: state,
-        sum: sum,
-    }
+    Called { state, sum }
 }
 
 // Decisions on one trigger, with the serials from 1 on.
 fn decide_all(controller: Controller, switch: u8, cause: u8, times: u32) -> Called {
     let mut state = controller;
-    let mut sum: u64 = 0;
-    let mut i: u32 = 0;
-    while i < times {
-        i += 1;
-        let r = controller::decide(state, switch, i, cause);
-        let next = r.state;
-        state = next;
+    let mut sum = 0;
+    for i in 0..times {
+        let r = controller::decide(state, switch, i + 1, cause);
+        state = r.state;
         sum = mix(sum, r.answer as u32);
     }
-    Called {
-        state: state,
-        sum: sum,
-    }
+    Called { state, sum }
 }
 
-// The sum of calls, with the last number given and how many changes are undone.
-fn told(c: Called) -> u64
-    ensures { result < 2 ^ 45 }
-{
-    let state = c.state;
-    let undone = state.progress.undone;
-    mix(mix(c.sum, state.progress.last), (undone.count % 256) as u32)
+impl Called {
+    // The sum of the calls, with the last number given and how many changes are undone.
+    fn told(self) -> u64
+        ensures { result < 2 ^ 45 }
+    {
+        let progress = self.state.progress;
+        mix(
+            mix(self.sum, progress.last),
+            (progress.undone.count % 256) as u32,
+        )
+    }
 }
 
 // Decisions on one trigger, after acknowledgements. On a switch past the last one they are refused right after question
@@ -88,8 +76,7 @@ pub extern "C" fn timed_decided(
     ensures { result < 2 ^ 45 }
 {
     let begun = receive_all(set_up(id, n, book), keys, acknowledgements, 0);
-    let state = begun.state;
-    told(decide_all(state, switch, cause, times))
+    decide_all(begun.state, switch, cause, times).told()
 }
 
 // Acknowledgements received, over and over from the state after so many decisions on one trigger.
@@ -107,14 +94,10 @@ pub extern "C" fn timed_acknowledged(
 ) -> u64
     ensures { result < 2 ^ 45 }
 {
-    let begun = decide_all(set_up(id, n, book), switch, cause, decisions);
-    let state = begun.state;
-    let mut sum: u64 = 0;
-    let mut i: u32 = 0;
-    while i < times {
-        let r = receive_all(state, keys, acknowledgements, sum);
-        sum = told(r);
-        i += 1;
+    let state = decide_all(set_up(id, n, book), switch, cause, decisions).state;
+    let mut sum = 0;
+    for _ in 0..times {
+        sum = receive_all(state, keys, acknowledgements, sum).told();
     }
     sum
 }
@@ -131,21 +114,14 @@ fn take_turns(
     let mut state = controller;
     let mut sum = before;
     let mut serial: u32 = 0;
-    let mut at: usize = 0;
-    while ACKNOWLEDGEMENT <= acknowledgements.len() - at {
-        serial = std::num::wrapping_add_u32(serial, 1);
-        let r = controller::decide(state, switch, serial, cause);
-        let end = at + ACKNOWLEDGEMENT;
-        let s = controller::receive(r.state, keys, &acknowledgements[at..end]);
-        let next = s.state;
-        state = next;
-        sum = mix(mix(sum, r.answer as u32), s.answer as u32);
-        at = end;
+    for acknowledgement in acknowledgements.chunks_exact(ACKNOWLEDGEMENT) {
+        serial = serial.wrapping_add(1);
+        let decided = controller::decide(state, switch, serial, cause);
+        let received = controller::receive(decided.state, keys, acknowledgement);
+        state = received.state;
+        sum = mix(mix(sum, decided.answer as u32), received.answer as u32);
     }
-    Called {
-        state: state,
-        sum: sum,
-    }
+    Called { state, sum }
 }
 
 // Decisions on one trigger and acknowledgements in turn, over and over from the state after setup.
@@ -163,12 +139,9 @@ pub extern "C" fn timed_in_turn(
     ensures { result < 2 ^ 45 }
 {
     let state = set_up(id, n, book);
-    let mut sum: u64 = 0;
-    let mut i: u32 = 0;
-    while i < times {
-        let r = take_turns(state, keys, switch, cause, acknowledgements, sum);
-        sum = told(r);
-        i += 1;
+    let mut sum = 0;
+    for _ in 0..times {
+        sum = take_turns(state, keys, switch, cause, acknowledgements, sum).told();
     }
     sum
 }
@@ -176,9 +149,8 @@ pub extern "C" fn timed_in_turn(
 // The state with another last number given in each turn, so that no two calls in a row are at the same state: a compiler
 // might ask question 20 of it once for all turns.
 fn stirred(c: Controller, turn: u32) -> Controller {
-    let last = 0xffff_ffff - turn;
     let mut next = c;
-    next.progress.last = last;
+    next.progress.last = u32::MAX - turn;
     next
 }
 
@@ -213,14 +185,10 @@ pub extern "C" fn timed_share_written(
 ) -> u64
     ensures { (length frame.new ≡ length frame.old) × (result < 2 ^ 45) }
 {
-    let begun = decide_all(set_up(id, n, book), switch, cause, decisions);
-    let state = begun.state;
-    let mut sum: u64 = 0;
-    let mut i: u32 = 0;
-    while i < times {
-        let turned = stirred(state, i);
-        sum = write_one(turned, keys, receiver, frame, at, sum);
-        i += 1;
+    let state = decide_all(set_up(id, n, book), switch, cause, decisions).state;
+    let mut sum = 0;
+    for i in 0..times {
+        sum = write_one(stirred(state, i), keys, receiver, frame, at, sum);
     }
     sum
 }

@@ -2,7 +2,6 @@
 ghost use Rattle.std.specs.Prelude.{◌≡◌, ◌^◌, ◌<◌, length};
 
 use crate::turns::mix;
-use std::num::wrapping_add_u32;
 
 // The FLOW_MODs of rules whose prefixes are a step apart, each written at an offset of a frame under the next number from
 // 0 on. Port 0 removes.
@@ -19,14 +18,11 @@ pub extern "C" fn timed_flow_mods(
     ensures { (length frame.new ≡ length frame.old) × (result < 2 ^ 45) }
 {
     let mut next = prefix;
-    let mut sum: u64 = 0;
-    let mut i: u32 = 0;
-    while i < times {
-        let rule = flow::rule_of(next, size, port);
-        let r = openflow::write_flow_mod(i, rule, frame, at);
+    let mut sum = 0;
+    for i in 0..times {
+        let r = openflow::write_flow_mod(i, flow::rule_of(next, size, port), frame, at);
         sum = mix(mix(sum, r.answer as u32), (r.length % 1000) as u32);
-        next = wrapping_add_u32(next, step);
-        i += 1;
+        next = next.wrapping_add(step);
     }
     sum
 }

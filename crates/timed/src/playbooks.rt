@@ -11,12 +11,10 @@ use crate::turns::{mix, stir};
 pub extern "C" fn timed_read(book: &mut [u8], place: usize, times: u32) -> u64
     ensures { (book.new, result) ≡ turned (read_once place) times (book.old, 0) }
 {
-    let mut sum: u64 = 0;
-    let mut i: u32 = 0;
-    while i < times {
+    let mut sum = 0;
+    for i in 0..times {
         stir(book, place, (i % 256) as u8);
         sum = read_one(book, sum);
-        i += 1;
     }
     sum
 }

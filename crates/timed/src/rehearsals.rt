@@ -11,12 +11,10 @@ pub extern "C" fn timed_rehearsed(input: &[u8], out: &mut [u8], times: u32) -> u
     ensures { (out.new, result)
         ≡ turned (rehearsed_once input.now) times (out.old, 0) }
 {
-    let mut sum: u64 = 0;
-    let mut i: u32 = 0;
-    while i < times {
+    let mut sum = 0;
+    for i in 0..times {
         let r = rehearsal::rehearse(input, out);
         sum = mix(mix(sum, r.answer as u32), (r.length % 1000000) as u32);
-        i += 1;
     }
     sum
 }

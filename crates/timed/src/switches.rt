@@ -2,9 +2,7 @@
 ghost use Rattle.std.specs.Prelude.{◌≡◌, ◌^◌, ◌<◌, length};
 
 use crate::turns::mix;
-use flow::Found;
-use std::num::wrapping_add_u32;
-use switch::{Looked, Raised, Switch};
+use switch::Switch;
 
 const SHARE: usize = message::layout::SHARE_LENGTH;
 
@@ -19,27 +17,17 @@ struct Received {
 fn receive_all(switch: Switch, keys: &[u8], shares: &[u8], before: u64) -> Received {
     let mut state = switch;
     let mut sum = before;
-    let mut at: usize = 0;
-    while SHARE <= shares.len() - at {
-        let end = at + SHARE;
-        let r = switch::receive(state, keys, &shares[at..end]);
-        let next = r.state;
-        state = next;
+    for share in shares.chunks_exact(SHARE) {
+        let r = switch::receive(state, keys, share);
+        state = r.state;
         sum = mix(sum, r.answer as u32);
-        at = end;
     }
-    Received {
-        state: state,
-        sum: sum,
-    }
+    Received { state, sum }
 }
 
 // A switch that has received shares since it was set up.
 fn filled(id: u8, n: u8, keys: &[u8], shares: &[u8]) -> Switch {
-    let fresh = switch::setup(id, n);
-    let state = fresh.state;
-    let r = receive_all(state, keys, shares, 0);
-    r.state
+    receive_all(switch::setup(id, n).state, keys, shares, 0).state
 }
 
 // Shares received by a switch, over and over from the state after those that fill it.
@@ -55,14 +43,10 @@ pub extern "C" fn timed_received(
     ensures { result < 2 ^ 45 }
 {
     let state = filled(id, n, keys, filling);
-    let mut sum: u64 = 0;
-    let mut i: u32 = 0;
-    while i < times {
+    let mut sum = 0;
+    for _ in 0..times {
         let r = receive_all(state, keys, shares, sum);
-        let after = r.state;
-        let table = after.table;
-        sum = mix(mix(r.sum, after.last), (table.count % 256) as u32);
-        i += 1;
+        sum = mix(mix(r.sum, r.state.last), (r.state.table.count % 256) as u32);
     }
     sum
 }
@@ -70,28 +54,16 @@ pub extern "C" fn timed_received(
 // The state with another cause in its event, so that no two calls in a row are at the same state: a compiler might ask
 // question 20 of it once for all turns.
 fn stirred(s: Switch, cause: u8) -> Switch {
-    let raised = s.raised;
-    let event = Raised {
-        serial: raised.serial,
-        cause: cause,
-    };
     let mut next = s;
-    next.raised = event;
+    next.raised.cause = cause;
     next
 }
 
-fn looked_number(l: Looked) -> u32 {
-    match l {
-        Looked::Refused(k) => 0x1_0000 + (k as u32),
-        Looked::Nothing => 0,
-        Looked::Port(port) => port as u32,
-    }
-}
-
-fn found_number(f: Found) -> u32 {
-    match f {
-        Found::Nothing => 0,
-        Found::Port(port) => port as u32,
+fn looked_number(looked: Result<Option<u16>, u8>) -> u32 {
+    match looked {
+        Err(k) => 0x1_0000 + (k as u32),
+        Ok(None) => 0,
+        Ok(Some(port)) => port as u32,
     }
 }
 
@@ -109,15 +81,12 @@ pub extern "C" fn timed_looked_up(
 {
     let mut state = filled(id, n, keys, filling);
     let mut address: u32 = 0;
-    let mut sum: u64 = 0;
-    let mut i: u32 = 0;
-    while i < times {
+    let mut sum = 0;
+    for _ in 0..times {
         let port = looked_number(switch::lookup(state, address));
-        let next = stirred(state, (port % 256) as u8);
-        state = next;
+        state = stirred(state, (port % 256) as u8);
         sum = mix(sum, port);
-        address = wrapping_add_u32(address, step);
-        i += 1;
+        address = address.wrapping_add(step);
     }
     sum
 }
@@ -134,15 +103,12 @@ pub extern "C" fn timed_forwarded(
 ) -> u64
     ensures { result < 2 ^ 45 }
 {
-    let state = filled(id, n, keys, filling);
-    let table = state.table;
+    let table = filled(id, n, keys, filling).table;
     let mut address: u32 = 0;
-    let mut sum: u64 = 0;
-    let mut i: u32 = 0;
-    while i < times {
-        sum = mix(sum, found_number(flow::lookup(table, address)));
-        address = wrapping_add_u32(address, step);
-        i += 1;
+    let mut sum = 0;
+    for _ in 0..times {
+        sum = mix(sum, flow::lookup(table, address).map_or(0, u32::from));
+        address = address.wrapping_add(step);
     }
     sum
 }
@@ -184,14 +150,11 @@ pub extern "C" fn timed_written(
 ) -> u64
     ensures { (length frame.new ≡ length frame.old) × (result < 2 ^ 45) }
 {
-    let raised = switch::raise(filled(id, n, keys, filling), 0);
-    let state = raised.state;
-    let mut sum: u64 = 0;
-    let mut i: u32 = 0;
-    while i < times {
+    let state = switch::raise(filled(id, n, keys, filling), 0).state;
+    let mut sum = 0;
+    for i in 0..times {
         let turned = stirred(state, (i % 256) as u8);
         sum = write_one(turned, event, keys, controller, frame, at, sum);
-        i += 1;
     }
     sum
 }

@@ -19,13 +19,11 @@ fn front(d: [u8; 32]) -> u32
 pub extern "C" fn timed_sha256(m: &mut [u8], times: u32) -> u64
     ensures { (m.new, result) ≡ turned (summed.digested sha256) times (m.old, 0) }
 {
-    let mut sum: u64 = 0;
-    let mut i: u32 = 0;
-    while i < times {
+    let mut sum = 0;
+    for i in 0..times {
         let d = tag::sha256(m);
         stir(m, 0, d[0]);
         sum = mix(sum, front(d));
-        i += 1;
     }
     sum
 }
@@ -36,13 +34,11 @@ pub extern "C" fn timed_hmac(key: &[u8], m: &mut [u8], times: u32) -> u64
     ensures { (m.new, result)
         ≡ turned (summed.digested (hmac key.now)) times (m.old, 0) }
 {
-    let mut sum: u64 = 0;
-    let mut i: u32 = 0;
-    while i < times {
+    let mut sum = 0;
+    for i in 0..times {
         let d = tag::hmac(key, m);
         stir(m, 0, d[0]);
         sum = mix(sum, front(d));
-        i += 1;
     }
     sum
 }

@@ -2,15 +2,16 @@
 // bytes of length and that many bytes. tests/trials.py makes the cases, and works out the lines from document 01 alone.
 #![tactic(auto)]
 
-use cases::{action_of, say, say_byte, say_hex, say_rule, say_size, say_word, u16_at, u32_at};
+use cases::{Hex, RuleFields, action_of, u16_at, u32_at};
 use flow::{Action, Rule};
-
-const STDIN_FILENO: i32 = 0;
-
 use lists::byte_at;
 use message::{End, Message};
 use playbook::{Change, Outcome, Plan, Playbook};
-use prose::OUT;
+use prose::Out;
+use std::fmt;
+use std::fmt::Write;
+
+const STDIN_FILENO: i32 = 0;
 
 // The key of every message here.
 const KEY: [u8; 32] = [0x0b; 32];
@@ -18,60 +19,53 @@ const KEY: [u8; 32] = [0x0b; 32];
 // How many bytes a frame has at most.
 const FRAME: usize = cases::FRAME;
 
-fn say_message(out: &mut [u8; OUT], m: Message) {
-    match m {
-        Message::Event {
-            switch,
-            controller,
-            serial,
-            cause,
-        } => {
-            say(out, b"event");
-            say_byte(out, switch);
-            say_byte(out, controller);
-            say_word(out, serial);
-            say_byte(out, cause);
-        }
-        Message::Share {
-            controller,
-            switch,
-            number,
-            rule,
-        } => {
-            say(out, b"share");
-            say_byte(out, controller);
-            say_byte(out, switch);
-            say_word(out, number);
-            say_rule(out, rule);
-        }
-        Message::Acknowledgement {
-            switch,
-            controller,
-            number,
-        } => {
-            say(out, b"acknowledgement");
-            say_byte(out, switch);
-            say_byte(out, controller);
-            say_word(out, number);
-        }
-        Message::Refused(k) => {
-            say(out, b"refused");
-            say_byte(out, k);
+// A message with its fields.
+#[derive(Clone, Copy)]
+struct MessageFields(Message);
+
+impl fmt::Display for MessageFields {
+    fn fmt<W: fmt::Write>(&self, f: &mut fmt::Formatter<W>) -> fmt::Result {
+        match self.0 {
+            Message::Event {
+                switch,
+                controller,
+                serial,
+                cause,
+            } => write!(f, "event {switch} {controller} {serial} {cause}"),
+            Message::Share {
+                controller,
+                switch,
+                number,
+                rule,
+            } => write!(
+                f,
+                "share {controller} {switch} {number} {}",
+                RuleFields(rule)
+            ),
+            Message::Acknowledgement {
+                switch,
+                controller,
+                number,
+            } => write!(f, "acknowledgement {switch} {controller} {number}"),
+            Message::Refused(k) => write!(f, "refused {k}"),
         }
     }
 }
 
 // Bytes received at an end: the message, its answer, and whether its tag matches.
-fn receive(out: &mut [u8; OUT], end: End, s: &[u8]) {
+fn receive(out: &mut Out, end: End, s: &[u8]) -> fmt::Result {
     let m = message::read(end, s);
-    say_message(out, m);
-    say(out, b" answer");
-    say_byte(out, message::number(m));
-    if message::is_sealed(&KEY, s) {
-        say(out, b" sealed\n");
+    let sealed = if message::is_sealed(&KEY, s) {
+        "sealed"
     } else {
-        say(out, b" not sealed\n");
-    }
+        "not sealed"
+    };
+    writeln!(
+        out,
+        "{} answer {} {sealed}",
+        MessageFields(m),
+        message::number(m)
+    )
 }
 
 fn share_of(s: &[u8]) -> Message {
@@ -93,34 +87,28 @@ fn share_of(s: &[u8]) -> Message {
 
 // The message to write: its kind at 9, its fields from 10 on.
 fn message_of(s: &[u8]) -> Message {
-    let kind = byte_at(s, 9);
     let number = u32_at(s, 12);
-    if kind == 1 {
-        return Message::Event {
+    match byte_at(s, 9) {
+        1 => Message::Event {
             switch: byte_at(s, 10),
             controller: byte_at(s, 11),
             serial: number,
             cause: byte_at(s, 16),
-        };
-    }
-    if kind == 2 {
-        return share_of(s);
-    }
-    if kind == 3 {
-        return Message::Acknowledgement {
+        },
+        2 => share_of(s),
+        3 => Message::Acknowledgement {
             switch: byte_at(s, 10),
             controller: byte_at(s, 11),
             number: number,
-        };
+        },
+        _ => Message::Refused(byte_at(s, 10)),
     }
-    Message::Refused(byte_at(s, 10))
 }
 
 fn offset_of(s: &[u8]) -> usize {
-    let high = u32_at(s, 1);
-    let low = u32_at(s, 5);
-    let wide = (high as u64) * 4294967296 + (low as u64);
-    wide as usize
+    let high = u64::from(u32_at(s, 1));
+    let low = u64::from(u32_at(s, 5));
+    (high * 0x1_0000_0000 + low) as usize
 }
 
 // A message written into the front of a frame, as many bytes as the case's first byte says, or all: the answer.
@@ -136,124 +124,112 @@ fn write_into(frame: &mut [u8], s: &[u8]) -> u8 {
 }
 
 // A message written into a frame, and the whole frame afterwards.
-fn write(out: &mut [u8; OUT], s: &[u8]) {
+fn write(out: &mut Out, s: &[u8]) -> fmt::Result {
     let mut space = [0xeeu8; FRAME];
     let answer = write_into(&mut space, s);
-    say(out, b"written");
-    say_byte(out, answer);
-    say(out, b" ");
-    say_hex(out, &space);
-    say(out, b"\n");
+    writeln!(out, "written {answer} {}", Hex(&space))
 }
 
-fn say_plan(out: &mut [u8; OUT], q: Plan) {
-    say(out, b" plan");
-    say_byte(out, q.switch);
-    say_byte(out, q.cause);
-    say_size(out, q.first);
-    say_size(out, q.count);
-}
+#[derive(Clone, Copy)]
+struct PlanFields(Plan);
 
-fn say_change(out: &mut [u8; OUT], c: Change) {
-    say(out, b" change");
-    say_byte(out, c.flow);
-    say_byte(out, c.switch);
-    say_rule(out, c.rule);
-}
-
-fn say_plans(out: &mut [u8; OUT], p: Playbook) {
-    let plans = p.plans;
-    let n = p.planned;
-    let mut i: usize = 0;
-    while i < playbook::limits::PLANS {
-        if i < n {
-            let q = plans[i];
-            say_plan(out, q);
-        }
-        i += 1;
+impl fmt::Display for PlanFields {
+    fn fmt<W: fmt::Write>(&self, f: &mut fmt::Formatter<W>) -> fmt::Result {
+        let Plan {
+            switch,
+            cause,
+            first,
+            count,
+        } = self.0;
+        write!(f, "plan {switch} {cause} {first} {count}")
     }
 }
 
-fn say_changes(out: &mut [u8; OUT], p: Playbook) {
-    let changes = p.changes;
-    let n = p.listed;
-    let mut i: usize = 0;
-    while i < playbook::limits::CHANGES {
-        if i < n {
-            let c = changes[i];
-            say_change(out, c);
-        }
-        i += 1;
+#[derive(Clone, Copy)]
+struct ChangeFields(Change);
+
+impl fmt::Display for ChangeFields {
+    fn fmt<W: fmt::Write>(&self, f: &mut fmt::Formatter<W>) -> fmt::Result {
+        let Change { flow, switch, rule } = self.0;
+        write!(f, "change {flow} {switch} {}", RuleFields(rule))
     }
 }
 
-fn say_stored(out: &mut [u8; OUT], p: Playbook) {
+// Whether a store is such as its reader stores.
+fn stored(p: Playbook) -> &'static str {
     if playbook::stored(p) {
-        say(out, b" stored");
+        "stored"
     } else {
-        say(out, b" not stored");
+        "not stored"
     }
 }
 
-fn say_outcome(out: &mut [u8; OUT], r: Outcome) {
+fn say_outcome(out: &mut Out, r: Outcome) -> fmt::Result {
     let p = r.playbook;
-    say_byte(out, r.answer);
-    say_size(out, r.used);
-    say_size(out, p.planned);
-    say_size(out, p.listed);
-    say_stored(out, p);
+    write!(
+        out,
+        "{} {} {} {} {}",
+        r.answer,
+        r.used,
+        p.planned,
+        p.listed,
+        stored(p)
+    )
 }
 
 // A playbook as the whole input, and at its front.
-fn read(out: &mut [u8; OUT], s: &[u8]) {
-    say(out, b"whole");
-    say_outcome(out, playbook::read(s));
-    say(out, b" first");
-    say_outcome(out, playbook::read_first(s));
-    say(out, b"\n");
+fn read(out: &mut Out, s: &[u8]) -> fmt::Result {
+    write!(out, "whole ")?;
+    say_outcome(out, playbook::read(s))?;
+    write!(out, " first ")?;
+    say_outcome(out, playbook::read_first(s))?;
+    writeln!(out)
 }
 
 // The store of a playbook, and the plan of the trigger in the first two bytes.
-fn show(out: &mut [u8; OUT], s: &[u8]) {
-    if s.len() < 2 {
-        return;
-    }
-    let r = playbook::read(&s[2..]);
-    let p = r.playbook;
-    say(out, b"store");
-    say_plans(out, p);
-    say_changes(out, p);
-    say(out, b" finds");
-    say_plan(out, playbook::plan_of(p, s[0], s[1]));
-    say(out, b"\n");
-}
-
-fn with_plan(p: Playbook, at: usize, q: Plan) -> Playbook {
-    let mut next = p;
-    if at < playbook::limits::PLANS {
-        next.plans[at] = q;
-    }
-    next
-}
-
-fn with_change(p: Playbook, at: usize, c: Change) -> Playbook {
-    let mut next = p;
-    if at < playbook::limits::CHANGES {
-        next.changes[at] = c;
-    }
-    next
-}
-
-fn change_of(switch: u8, prefix: u32, length: u8, action: Action) -> Change {
-    let rule = Rule {
-        prefix: prefix,
-        length: length,
-        action: action,
+fn show(out: &mut Out, s: &[u8]) -> fmt::Result {
+    let [switch, cause, book @ ..] = s else {
+        return Ok(());
     };
+    let p = playbook::read(book).playbook;
+    write!(out, "store")?;
+    for plan in p.plans.iter().take(p.planned) {
+        write!(out, " {}", PlanFields(*plan))?;
+    }
+    for change in p.changes.iter().take(p.listed) {
+        write!(out, " {}", ChangeFields(*change))?;
+    }
+    writeln!(
+        out,
+        " finds {}",
+        PlanFields(playbook::plan_of(p, *switch, *cause))
+    )
+}
+
+fn with_plan(mut p: Playbook, at: usize, plan: Plan) -> Playbook {
+    if let Some(place) = p.plans.get_mut(at) {
+        *place = plan;
+    }
+    p
+}
+
+fn with_change(mut p: Playbook, at: usize, change: Change) -> Playbook {
+    if let Some(place) = p.changes.get_mut(at) {
+        *place = change;
+    }
+    p
+}
+
+// A change of flow 0.
+fn change_of(switch: u8, prefix: u32, length: u8, action: Action) -> Change {
     Change {
         flow: 0,
         switch: switch,
-        rule: rule,
+        rule: Rule {
+            prefix: prefix,
+            length: length,
+            action: action,
+        },
     }
 }
 
@@ -266,24 +242,20 @@ fn plan_of(switch: u8, cause: u8, first: usize, count: usize) -> Plan {
     }
 }
 
-fn recounted(p: Playbook, planned: usize, listed: usize) -> Playbook {
-    let mut next = p;
-    next.planned = planned;
-    next.listed = listed;
-    next
+fn recounted(mut p: Playbook, planned: usize, listed: usize) -> Playbook {
+    p.planned = planned;
+    p.listed = listed;
+    p
 }
 
 // A store with one thing altered, by its number.
 fn damaged(p: Playbook, what: u8) -> Playbook {
-    let plans = p.plans;
-    let q = plans[0];
-    let planned = p.planned;
-    let listed = p.listed;
+    let q = p.plans[0];
     match what {
-        1 => recounted(p, 65, listed),
-        2 => recounted(p, planned, 513),
-        3 => recounted(p, 1, listed),
-        4 => recounted(p, planned, 1),
+        1 => recounted(p, 65, p.listed),
+        2 => recounted(p, p.planned, 513),
+        3 => recounted(p, 1, p.listed),
+        4 => recounted(p, p.planned, 1),
         5 => with_plan(p, 0, plan_of(16, q.cause, q.first, q.count)),
         6 => with_plan(p, 0, plan_of(q.switch, q.cause, 1, q.count)),
         7 => with_plan(p, 0, plan_of(q.switch, q.cause, q.first, 33)),
@@ -298,36 +270,28 @@ fn damaged(p: Playbook, what: u8) -> Playbook {
 }
 
 // The first n changes on switch 0, each with another prefix.
-fn spread(p: Playbook, n: u8) -> Playbook {
-    let mut next = p;
-    let count = n as usize;
-    let mut i: usize = 0;
-    while i < count {
-        let c = change_of(0, (i as u32) * 65536, 16, Action::Remove);
-        next.changes[i] = c;
-        i += 1;
+fn spread(mut p: Playbook, n: u8) -> Playbook {
+    for i in 0..n {
+        p.changes[usize::from(i)] = change_of(0, u32::from(i) * 65536, 16, Action::Remove);
     }
-    next
+    p
 }
 
 // The store of a playbook, damaged as the first byte says, or spread over as many prefixes as the second says.
-fn damage(out: &mut [u8; OUT], s: &[u8]) {
-    if s.len() < 2 {
-        return;
-    }
-    let r = playbook::read(&s[2..]);
-    let p = r.playbook;
-    say(out, b"damaged");
-    say_byte(out, s[0]);
-    if s[1] == 0 {
-        say_stored(out, damaged(p, s[0]));
+fn damage(out: &mut Out, s: &[u8]) -> fmt::Result {
+    let [what, n, book @ ..] = s else {
+        return Ok(());
+    };
+    let p = playbook::read(book).playbook;
+    let altered = if *n == 0 {
+        damaged(p, *what)
     } else {
-        say_stored(out, spread(p, s[1]));
-    }
-    say(out, b"\n");
+        spread(p, *n)
+    };
+    writeln!(out, "damaged {what} {}", stored(altered))
 }
 
-fn run_case(out: &mut [u8; OUT], letter: u8, s: &[u8]) {
+fn run_case(out: &mut Out, letter: u8, s: &[u8]) -> fmt::Result {
     match letter {
         b'S' => receive(out, End::Switch, s),
         b'C' => receive(out, End::Controller, s),
@@ -335,33 +299,28 @@ fn run_case(out: &mut [u8; OUT], letter: u8, s: &[u8]) {
         b'P' => read(out, s),
         b'L' => show(out, s),
         b'D' => damage(out, s),
-        _ => say(out, b"unknown case\n"),
+        _ => writeln!(out, "unknown case"),
     }
 }
 
-// The length of the first case's bytes.
-fn length_of(s: &[u8]) -> usize {
-    u16_at(s, 1) as usize
-}
-
-fn run(out: &mut [u8; OUT], s: &[u8]) {
+fn run(out: &mut Out, s: &[u8]) -> fmt::Result {
     let mut rest = s;
-    while 3 <= rest.len() {
-        let n = length_of(rest);
-        let body = &rest[3..];
-        if body.len() < n {
-            say(out, b"cut case\n");
-            return;
+    while let [letter, high, low, behind @ ..] = rest {
+        let n = usize::from(lists::u16_of(*high, *low));
+        if behind.len() < n {
+            return writeln!(out, "cut case");
         }
-        run_case(out, rest[0], &body[0..n]);
-        rest = &body[n..];
+        run_case(out, *letter, &behind[..n])?;
+        rest = &behind[n..];
     }
+    Ok(())
 }
 
-fn main() {
-    let mut out = [0u8; OUT];
+fn main() -> fmt::Result {
+    let mut out = Out::new();
     let mut space = io::large_buffer();
     let n = io::read_full(STDIN_FILENO, &mut space);
-    run(&mut out, &space[..n]);
-    prose::say_end(&mut out);
+    let said = run(&mut out, &space[..n]);
+    out.end();
+    said
 }

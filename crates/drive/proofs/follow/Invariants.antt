@@ -2,5 +2,5 @@
 use lib.ListN.{length}
 use Rattle.drive.proofs.follow.Given as goal
 
-abbrev pub decreases-loop-rest : goal.decreases-loop-rest
-decreases-loop-rest l = length l.rest
+abbrev pub decreases-loop-head : goal.decreases-loop-head
+decreases-loop-head l = length l.rest

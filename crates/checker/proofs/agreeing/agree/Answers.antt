@@ -1,32 +1,32 @@
--- `agree` meets its contract. The loop's invariant: the course is that of the first i decisions, laid out.
--- Assumes nothing.
+-- A decision more takes the course to the next one.
 use mathlib.Core.Path.{◌≡◌, sym, ap, ◌∙◌}
 use mathlib.Core.Bool.{true}
 use Prim.Native.Nat.{◌/◌}
 use native.Mathlib.Omega.{arith}
-use lib.ListN.{length}
+use lib.ListN.{length, replicate}
 use Rattle.playbook.specs.Storing.{stored_ok}
 use Rattle.checker.proofs.Laying.{course_at, course_begins, course_few, course_turn, agreed_none, agreed_all}
 use Rattle.checker.proofs.agreeing.agree.Goals as goal
 
 pub returns-then-not-stored : goal.returns-then-not-stored
-returns-then-not-stored c = agreed_none c.args.p c.args.decisions.now (sym c.stored.ensures ∙ c.if-not-stored.true)
+returns-then-not-stored c =
+    (λ i. record { answer = 20; changes = replicate 256 (c.none-none.ensures i); count = 0 })
+    ∙ agreed_none c.args.p c.args.decisions.now (sym c.stored.ensures ∙ c.if-not-stored.true)
 
 pub loop-i-init : goal.loop-i-init
-loop-i-init c = (omega arith, course_begins c.args.p c.args.decisions.now)
+loop-i-init c =
+    (λ i. record { serials = replicate 16 0; changes = replicate 256 (c.none-none.ensures i); count = 0 })
+    ∙ course_begins c.args.p c.args.decisions.now
 
-pub advance-next-requires : goal.advance-next-requires
-advance-next-requires c =
-    let stored : stored_ok c.args.p ≡ true = sym c.stored.ensures ∙ c.if-not-stored.false in
+pub advance-requires-clause-few : goal.advance-requires-clause-few
+advance-requires-clause-few c =
     let few = course_few c.args.p c.args.decisions.now c.loop-i.i in
-    (stored, rw c.loop-i.invariant.1 few)
+    rw c.loop-i.invariant few
 
 pub loop-i-preserved : goal.loop-i-preserved
-loop-i-preserved c = (
-  omega arith,
-  course_turn c.args.p c.args.decisions.now c.loop-i.i (omega arith) c.loop-i.invariant.1
-      c.u32_of-serial.ensures c.advance-next.ensures,
-)
+loop-i-preserved c =
+    course_turn c.args.p c.args.decisions.now c.loop-i.i (omega arith) c.loop-i.invariant
+    c.u32_of-serial.ensures c.advance.ensures
 
 pub returns : goal.returns
 returns c =
@@ -34,4 +34,4 @@ returns c =
     let bytes = c.args.decisions.now in
     let end : c.loop-i.i ≡ length bytes / 6 = omega arith in
     agreed_all c.args.p bytes stored
-    (c.loop-i.invariant.1 ∙ ap (course_at c.args.p bytes) end)
+    (c.loop-i.invariant ∙ ap (course_at c.args.p bytes) end)

@@ -1,23 +1,15 @@
--- `ask` meets its contract: an aim at tables that stand still explores from the first change on, with none made yet.
-use mathlib.Core.Path.{◌∙◌}
+-- No change is made before the first.
+use mathlib.Core.Path.{ap, ◌∙◌}
 use mathlib.Core.Bool.{false}
-use lib.ListN.{replicate}
-use Rattle.checker.proofs.Judging.{asks_same, from_first}
+use lib.ListN.{length, replicate}
+use Rattle.checker.specs.Layout.{changes_in, network_for, traffic_of}
+use Rattle.checker.specs.Checked.{outcome_of}
+use Rattle.checker.proofs.Judging.{from_first, explored_at}
 use Rattle.checker.proofs.classes.ask.Goals as goal
 
 pub returns-in-Resting : goal.returns-in-Resting
 returns-in-Resting c = let a = c.args in
-    c.explore.ensures ∙ from_first a.changes.now a.q.count _ _ _ a.q.settled (replicate 256 false)
-    a.budget
-    ∙ asks_same a.changes.now a.links.now a.q a.address a.budget c.in-Resting.is
-
-pub returns-in-Losing : goal.returns-in-Losing
-returns-in-Losing c = let a = c.args in
-    c.explore-in-Losing.ensures ∙ from_first a.changes.now a.q.count _ _ _ a.q.settled (replicate 256 false)
-    a.budget
-    ∙ asks_same a.changes.now a.links.now a.q a.address a.budget c.in-Losing.is
-
-pub returns-in-Moving : goal.returns-in-Moving
-returns-in-Moving c = let a = c.args in
-    c.fly.ensures
-    ∙ asks_same a.changes.now a.links.now a.q a.address a.budget c.in-Moving.is
+    c.explore.ensures
+    ∙ ap outcome_of (from_first a.changes.now (length a.changes.now) _ _ _ a.q.settled (replicate 256 false) a.budget
+    ∙ explored_at a.q.aim c.in-Resting.is (changes_in a.changes.now) a.q.settled (network_for a.links.now) (traffic_of a.q)
+    a.address a.budget)

@@ -1,8 +1,7 @@
--- `ask_all` meets its contract. The loop's invariant: what is asked about all bounds is what is asked about those from
--- place i on, with what is left of the budget.
+-- What is asked about all bounds is what is asked about those from place i on, with what is left of the budget.
 use mathlib.Core.Path.{◌≡◌}
 use mathlib.Core.Bool.{Bool}
-use Prim.Native.Nat.{ℕ, ◌+◌, ◌*◌, ◌-◌, ◌≤◌}
+use Prim.Native.Nat.{ℕ}
 use lib.ListN.{drop}
 use Rattle.flow.specs.Lookups.{covers}
 use Rattle.checker.specs.Layout.{bounds_for}
@@ -12,13 +11,9 @@ use Rattle.checker.proofs.classes.ask_all.Given as goal
 
 -- which bounds are asked about
 abbrev pub within : Quest → ℕ → Bool
-within q address = covers (q.prefix, q.length) address
+within q address = covers (q.line.prefix, q.line.length) address
 
 abbrev pub invariant-loop-i : goal.invariant-loop-i
 invariant-loop-i l =
-    (l.i ≤ 2 * l.q.count + 1)
-    × (asks_from (within l.q) l.aim l.changes l.links l.q (bounds_for l.changes l.q) l.budget
-    ≡ asks_from (within l.q) l.aim l.changes l.links l.q (drop l.i (bounds_for l.changes l.q)) l.left)
-
-abbrev pub decreases-loop-i : goal.decreases-loop-i
-decreases-loop-i l = 2 * l.q.count + 1 - l.i
+    asks_from (within l.q) l.changes l.links l.q (bounds_for l.changes l.q) l.budget
+    ≡ asks_from (within l.q) l.changes l.links l.q (drop l.i (bounds_for l.changes l.q)) l.left

@@ -1,6 +1,5 @@
--- `comes_again` meets its contract. The loop's invariant: the address is among the bounds from the first place on
--- exactly if it is among those from place i on.
-use mathlib.Core.Path.{refl, sym, ◌∙◌}
+-- The bound at place i is the address, or not.
+use mathlib.Core.Path.{sym, ◌∙◌}
 use native.Mathlib.Omega.{arith}
 use Rattle.checker.specs.Layout.{bounds_for}
 use Rattle.checker.proofs.Bounding.{asked_length, again_here, again_later, again_none}
@@ -22,6 +21,3 @@ pub returns : goal.returns
 returns c = let a = c.args in
     let long = asked_length a.changes.now a.q in
     sym (c.loop-i.invariant ∙ again_none (bounds_for a.changes.now a.q) c.loop-i.i a.address (omega arith))
-
-pub loop-i-init : goal.loop-i-init
-loop-i-init c = refl

@@ -1,7 +1,5 @@
--- `comes_again` meets its contract. The loop's invariant: the address is among the bounds from the first place on
--- exactly if it is among those from place i on.
+-- The address is among the bounds from the first place on exactly if it is among those from place i on.
 use mathlib.Core.Path.{◌≡◌}
-use Prim.Native.Nat.{◌+◌, ◌*◌, ◌-◌}
 use lib.ListN.{drop}
 use Rattle.lists.specs.Kinds.{is_among}
 use Rattle.checker.specs.Layout.{bounds_for}
@@ -10,6 +8,3 @@ use Rattle.checker.proofs.classes.comes_again.Given as goal
 abbrev pub invariant-loop-i : goal.invariant-loop-i
 invariant-loop-i l =
     is_among l.address (drop l.from (bounds_for l.changes l.q)) ≡ is_among l.address (drop l.i (bounds_for l.changes l.q))
-
-abbrev pub decreases-loop-i : goal.decreases-loop-i
-decreases-loop-i l = 2 * l.q.count + 1 - l.i

@@ -1,6 +1,6 @@
--- `longest` meets its contract. The loop's invariant: the longest of all lengths is the longest of those below l.
+-- The longest of all lengths is the longest of those below l.
 use mathlib.Core.Path.{◌≡◌}
-use Prim.Native.Nat.{ℕ, ◌≤◌}
+use Prim.Native.Nat.{ℕ}
 use lib.ListN.{get_or}
 use Rattle.isolation.specs.Check.{longest_to}
 use Rattle.checker.specs.Layout.{found_of}
@@ -9,8 +9,4 @@ use Rattle.checker.proofs.ways.longest.Given as goal
 
 abbrev pub invariant-loop-l : goal.invariant-loop-l
 invariant-loop-l l =
-    (l.l ≤ 33)
-    × (longest_to 32 (λ (k : ℕ). found_of (get_or l.ports k 0)) ≡ longest_below l.l (λ (k : ℕ). found_of (get_or l.ports k 0)))
-
-abbrev pub decreases-loop-l : goal.decreases-loop-l
-decreases-loop-l l = l.l
+    longest_to 32 (λ (k : ℕ). found_of (get_or l.ports k 0)) ≡ longest_below l.l (λ (k : ℕ). found_of (get_or l.ports k 0))

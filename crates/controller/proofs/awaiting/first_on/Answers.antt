@@ -1,37 +1,17 @@
--- `first_on` meets its contract. The loop's invariant: none of the first i changes is on the switch.
-use mathlib.Core.Path.{◌∙◌}
-use mathlib.Core.Bool.{Bool}
-use Prim.Native.Nat.{ℕ}
-use native.Mathlib.Omega.{arith}
-use borrow.Author.Tests.{eq-eqb, ne_eqb}
-use lib.Dec.{eqb}
-use lib.ListN.{get_or}
-use Rattle.controller.specs.Changes.{empty_undone}
+-- `first_on` meets its contract: the chain finds the first change that passes the test. Assumes nothing.
+use Rattle.std.proofs.Common.{rules, tests, ◌≡◌, ◌∙◌, eqb, find, option_map}
+use Rattle.std.proofs.lemmas.Iterator.{YieldsList-from_slice}
+use Rattle.std.proofs.lemmas.Iterator.Search.{find_from_yields_List}
+use denote.Ref.{Bor}
+use Rattle.controller.specs.Changes.{undone_in}
 use Rattle.controller.specs.declared.Undone.{Undone}
-use Rattle.controller.proofs.Searching.{at_first, at_hand, next, none_left}
+use Rattle.controller.proofs.Chains.{first_or_empty}
 use Rattle.controller.proofs.awaiting.first_on.Goals as goal
 
-abbrev on : ℕ → Undone → Bool
-on switch u = eqb u.switch switch
-
-pub loop-i-init : goal.loop-i-init
-loop-i-init c = let a = c.args in
-    at_first (on a.switch) a.h.changes c.undone_in-n.result
-
-pub returns-then-u-switch : goal.returns-then-u-switch
-returns-then-u-switch c = let a = c.args in
-    at_hand (on a.switch) a.h.changes c.undone_in-n.result a.h.count c.undone_in-n.ensures.0
-    c.loop-i.i empty_undone c.loop-i.invariant (omega arith)
-    (eq-eqb (get_or a.h.changes c.loop-i.i empty_undone).switch a.switch c.if-u-switch.true)
-
-pub loop-i-preserved : goal.loop-i-preserved
-loop-i-preserved c = let a = c.args in
-    next (on a.switch) a.h.changes c.undone_in-n.result a.h.count c.undone_in-n.ensures.0
-    c.loop-i.i empty_undone c.loop-i.invariant (omega arith)
-    (ne_eqb (get_or a.h.changes c.loop-i.i empty_undone).switch a.switch c.if-u-switch.false)
-
 pub returns : goal.returns
-returns c = let a = c.args in
-    c.empty_undone.ensures
-    ∙ none_left (on a.switch) a.h.changes c.undone_in-n.result a.h.count
-    c.undone_in-n.ensures.0 c.loop-i.i empty_undone c.loop-i.invariant (omega arith)
+returns c =
+    let us = undone_in c.args.h in
+    let found : option_map (λ (x : Bor Undone). x.now) c.find-first.result ≡ find (λ (u : Undone). eqb u.switch c.args.switch) us =
+    find_from_yields_List (λ (u : Undone). eqb u.switch c.args.switch) _ _ c.find-first.result c.find-first.ensures.ran (YieldsList-from_slice us cc)
+    (λ x b q k. search (rules, tests)) in
+    c.unwrap_or.ensures ∙ first_or_empty (λ (u : Undone). eqb u.switch c.args.switch) us c.find-first.result found c.copied.ensures

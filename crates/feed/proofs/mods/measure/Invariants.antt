@@ -1,10 +1,8 @@
--- `measure` meets its contract. The loop's invariant: the total is the length of the FLOW_MODs of the first i rules.
-use Prim.Native.Nat.{◌-◌}
-use Rattle.feed.proofs.Putting.{Measured}
+-- The loop's invariant: the total is the length of the FLOW_MODs of the rules so far.
+use mathlib.Core.Path.{◌≡◌}
+use lib.ListN.{length, take}
+use Rattle.feed.specs.Mods.{mods_of}
 use Rattle.feed.proofs.mods.measure.Given as goal
 
-abbrev pub invariant-loop-i : goal.invariant-loop-i
-invariant-loop-i l = Measured l.rules l.count l.i l.total
-
-abbrev pub decreases-loop-i : goal.decreases-loop-i
-decreases-loop-i l = l.count - l.i
+abbrev pub invariant-loop-slot : goal.invariant-loop-slot
+invariant-loop-slot l = l.total ≡ length (mods_of (take l.slot-index l.rules))

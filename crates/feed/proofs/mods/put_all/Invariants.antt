@@ -1,11 +1,6 @@
--- `put_all` meets its contract. The loop's invariant: the FLOW_MODs of the first i rules stand at the start of the
--- output.
-use Prim.Native.Nat.{◌-◌}
+-- The loop's invariant: the FLOW_MODs of the rules so far stand at the start of the output.
 use Rattle.feed.proofs.Putting.{Put}
 use Rattle.feed.proofs.mods.put_all.Given as goal
 
-abbrev pub invariant-loop-i : goal.invariant-loop-i
-invariant-loop-i l = Put l.rules l.count l.initial.out l.i l.at l.out
-
-abbrev pub decreases-loop-i : goal.decreases-loop-i
-decreases-loop-i l = l.count - l.i
+abbrev pub invariant-loop-slot : goal.invariant-loop-slot
+invariant-loop-slot l = Put l.rules l.initial.out l.slot-index l.at l.out

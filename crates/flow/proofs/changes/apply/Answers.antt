@@ -31,15 +31,19 @@ returns-then-not-has_room c =
     ∙ asked _ _ 15 _ _ formed
     ∙ refused _ _ 19 _ _ full)
 
-pub change-next-requires : goal.change-next-requires
-change-next-requires c =
+pub change-requires : goal.change-requires
+change-requires c =
     let within : table_ok c.args.t ≡ true = sym c.table_ok.ensures ∙ c.if-not-table_ok.false in
     let fits : (let a = c.args in
     room_for a.rule (entries_of a.t) ≡ true) = sym c.has_room.ensures ∙ c.if-not-has_room.false in
     let long : length c.args.t.entries ≡ 64 = search (rules, length_mapped) in
     let t = c.args.t in
     let ok = within in
-    (ok_padded t long ok, room_law c.args.rule (entries_of t) (ok_ordered t ok) (ok_few t ok) fits)
+    record {
+      padded = ok_padded t long ok;
+      ordered = ok_ordered t ok;
+      room = room_law c.args.rule (entries_of t) (ok_ordered t ok) (ok_few t ok) fits;
+    }
 
 pub returns : goal.returns
 returns c =
@@ -49,4 +53,4 @@ returns c =
     room_for a.rule (entries_of a.t) ≡ true) = sym c.has_room.ensures ∙ c.if-not-has_room.false in
     let rule = c.args.rule in
     let limits = within in
-    rw c.change-next.ensures (sym (apply_done _ rule limits formed fits))
+    rw c.change.ensures (sym (apply_done _ rule limits formed fits))

@@ -1,14 +1,9 @@
--- `longest` meets its contract. The loop's invariant: at the place held stands the best of the entries from i on.
--- Assumes nothing.
-use mathlib.Core.Path.{◌≡◌}
-use Prim.Native.Nat.{◌≤◌}
-use lib.ListN.{take, drop}
+-- `longest` meets its contract. The loop's invariant: the entry held gives what the entries so far give. Assumes nothing.
+use Rattle.std.proofs.Common.{◌≡◌, Bor, map, reverse}
 use Rattle.flow.specs.Lookups.{best_of}
-use Rattle.flow.proofs.Places.{best_at}
+use Rattle.flow.specs.declared.Entry.{Entry}
+use Rattle.flow.proofs.Bests.{held}
 use Rattle.flow.proofs.lookups.longest.Given as goal
 
-abbrev pub invariant-loop-i : goal.invariant-loop-i
-invariant-loop-i l = (l.i ≤ l.count) × (best_at l.es l.at ≡ best_of l.address (drop l.i (take l.count l.es)))
-
-abbrev pub decreases-loop-i : goal.decreases-loop-i
-decreases-loop-i l = l.i
+abbrev pub invariant-loop-entry : goal.invariant-loop-entry
+invariant-loop-entry l = best_of l.address (reverse (map (λ (x : Bor Entry). x.now) l.yielded)) ≡ held l.best

@@ -1,10 +1,6 @@
--- Each turn passes a record that is there whole.
-use Prim.Native.Nat.{◌≤◌, ◌-◌}
+-- Each record leaves fewer bytes.
 use lib.ListN.{length}
 use Rattle.isolated.proofs.network.read.Given as goal
 
-abbrev pub invariant-loop-at : goal.invariant-loop-at
-invariant-loop-at l = l.at ≤ length l.b
-
-abbrev pub decreases-loop-at : goal.decreases-loop-at
-decreases-loop-at l = length l.b - l.at
+abbrev pub decreases-loop-rest : goal.decreases-loop-rest
+decreases-loop-rest l = length l.rest

@@ -2,4 +2,4 @@
 use Rattle.message.proofs.shares.read_share.Goals as goal
 
 pub returns : goal.returns
-returns c = rw (c.u32_at.ensures, c.rule_of-rule.ensures, c.u32_at-prefix.ensures, c.u16_at-port.ensures)
+returns c = rw (c.u32_at.ensures, c.rule_of.ensures, c.u32_at-2.ensures, c.u16_at.ensures)

@@ -32,10 +32,10 @@ put_instruction-requires c =
     omega (arith, c.requires.0, c.match_end-end.ensures, whole) in
     simp (length-take, length-drop) (omega (arith, room))
 
-pub returns-in-Remove : goal.returns-in-Remove
-returns-in-Remove c = let a = c.args in
+pub returns-in_default : goal.returns-in_default
+returns-in_default c = let a = c.args in
     removal_put a.part.now a.number a.rule c.length_of-size.ensures c.command_of-command.ensures
-    c.put_header.ensures c.put_flow_mod.ensures c.put_match.ensures c.in-Remove.is
+    c.put_header.ensures c.put_flow_mod.ensures c.put_match.ensures c.in_default.is
 
 pub returns-in-Set : goal.returns-in-Set
 returns-in-Set c =

@@ -1,16 +1,9 @@
--- `keys_fit` meets its contract. The loop's invariant: the numbers gathered are those of the different keys of the
--- changes from i on. Assumes nothing.
-use mathlib.Core.Path.{◌≡◌}
-use Prim.Native.Nat.{◌≤◌}
-use lib.ListN.{length, take, drop}
-use Rattle.playbook.specs.Limits.{max_keys}
+-- `keys_fit` meets its contract. The loop's invariant: the keys gathered are the different ones of the changes so far.
+-- Assumes nothing.
+use lib.ListN.{take}
 use Rattle.playbook.specs.Books.{keys_on}
-use Rattle.playbook.proofs.Gathered.{Gathered}
+use Rattle.playbook.specs.Gathering.{Gathered}
 use Rattle.playbook.proofs.keys.keys_fit.Given as goal
 
-abbrev pub invariant-loop-i : goal.invariant-loop-i
-invariant-loop-i l =
-    (l.i ≤ l.n) × (length l.seen ≡ max_keys) × Gathered l.count l.seen (keys_on l.switch (drop l.i (take l.n l.changes)))
-
-abbrev pub decreases-loop-i : goal.decreases-loop-i
-decreases-loop-i l = l.i
+abbrev pub invariant-loop-change : goal.invariant-loop-change
+invariant-loop-change l = Gathered (take l.keys.count l.keys.held) (keys_on l.switch (take l.change-index l.changes))

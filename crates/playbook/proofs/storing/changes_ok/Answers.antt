@@ -1,175 +1,114 @@
--- `changes_ok` meets its contract. The first loop's invariant: the changes in use pass where those from i on do, and
--- those before i are counted. The second's: the others are empty where those from i on are. Assumes nothing.
+-- `changes_ok` meets its contract: the loops' tests are those of the definitions. Assumes nothing.
 use mathlib.Core.Path.{◌≡◌, refl, sym, ap, ◌∙◌}
-use mathlib.Core.List.{List}
-use mathlib.Core.Bool.{Bool, true, false, ◌&&◌, and-false}
-use Prim.Native.Nat.{ℕ, ◌+◌, ◌<◌}
+use mathlib.Core.Bool.{true, false, and-false}
+use mathlib.Core.List.{◌∷◌, [], ◌++◌}
+use Prim.Native.Nat.{ℕ, ◌+◌, ◌≤◌}
 use native.Mathlib.Omega.{arith}
 use borrow.Author.Rules.{rules}
-use borrow.Author.Tests.{ltb-true}
+use borrow.Author.Tests.{tests, ltb-true, leb-true}
 use lib.Dec.{ltb}
-use lib.ListN.{length, take, drop, get_or, length-take}
+use lib.ListN.{take, get_or, length-take}
+use lib.Seq.{take_all}
+use Rattle.std.specs.List.{list_all}
+use Rattle.std.proofs.lemmas.Iterator.{YieldsList-from_slice}
+use Rattle.std.proofs.lemmas.Iterator.Search.{all_from_yields_List}
 use Rattle.answer.specs.Limits.{switch_count}
-use Rattle.answer.proofs.Bools.{and_parts}
+use Rattle.answer.proofs.Bools.{by_bool, tf, and_join, and_parts}
 use Rattle.lists.specs.Arrays.{every}
 use Rattle.lists.proofs.Stores.{take_next}
-use Rattle.lists.proofs.Tails.{every_ahead, every_back, every_rest, every_end}
-use Rattle.playbook.specs.Limits.{max_changes}
-use Rattle.playbook.specs.Books.{empty_change}
-use Rattle.playbook.specs.Storing.{change_ok, change_empty}
+use Rattle.lists.proofs.Tails.{every_at, every_snoc}
+use Rattle.playbook.specs.Limits.{max_keys}
+use Rattle.playbook.specs.Books.{empty_change, kinds_on}
+use Rattle.playbook.specs.Storing.{change_ok, change_empty, few_keys_below}
 use Rattle.playbook.specs.declared.Change.{Change}
-use Rattle.playbook.proofs.Gathered.{Tally, tally_none, tally_room, tally_on, tally_few}
+use Rattle.playbook.proofs.Gathered.{Tally, tally_none, tally_room, tally_on, tally_few, few-next, few-fails}
+use Rattle.playbook.proofs.Held.{list_all-every}
 use Rattle.playbook.proofs.storing.changes_ok.Goals as goal
+use Rattle.playbook.proofs.storing.changes_ok.Goals.{else-on-from-gt-KEYS-via-then-on-from-gt-KEYS+else-not-keys_fit, else-on-from-gt-KEYS-via-else-on-from-gt-KEYS}
 
-pub loop-i-init : goal.loop-i-init
-loop-i-init c = (omega arith, refl, tally_none _ refl)
+pub loop-change-init : goal.loop-change-init
+unfolding every
+loop-change-init c = (refl, tally_none [] refl)
 
-pub returns-then-not-change_ok : goal.returns-then-not-change_ok
-returns-then-not-change_ok c =
-    let full : length c.args.changes ≡ max_changes = search rules in
-    let in_use : List Change = take c.args.n c.args.changes in
-    let turn : (let cs = in_use in
-    every change_ok cs ≡ (c.change_ok.result && every change_ok (drop (c.loop-i.i + 1) cs))) =
-    let at = c.loop-i in
-    let long = full in
-    at.invariant.1 ∙ every_ahead _ c.args.changes c.args.n at.i empty_change (omega arith) (omega arith) ∙ rw
-    c.change_ok.ensures in
-    let wrong : every change_ok in_use ≡ false =
-    turn ∙ rw c.if-not-change_ok.true in
-    rw wrong
+pub returns-then-not-is_ok : goal.returns-then-not-is_ok
+returns-then-not-is_ok c =
+    let cs = c.args.changes.now in
+    let i = c.loop-change.change-index in
+    let wrong : change_ok (get_or cs i empty_change) ≡ false = sym c.is_ok.ensures ∙ c.if-not-is_ok.true in
+    let some : every change_ok cs ≡ false =
+    by_bool (every change_ok cs) (λ e. tf (every_at change_ok cs i empty_change e c.loop-change-test.true) wrong)
+    (λ e. e) in
+    rw some
 
 pub overflow_add-on : goal.overflow_add-on
 overflow_add-on c =
-    let full : length c.args.changes ≡ max_changes = search rules in
-    let in_use : List Change = take c.args.n c.args.changes in
-    let change : Change = get_or c.args.changes c.loop-i.i empty_change in
-    let known : change.switch <
-    switch_count = let right = sym c.change_ok.ensures ∙ c.if-not-change_ok.false in
-    ltb-true _ _ (and_parts (ltb change.switch switch_count) _ right).0 in
-    let at = c.loop-i in
-    let s = change.switch in
-    omega (
-      arith,
-      tally_room at.invariant.2 s known,
-      length-take at.i
-          c.args.changes,
-      full,
+    let cs = c.args.changes.now in
+    let i = c.loop-change.change-index in
+    let change : Change = get_or cs i empty_change in
+    let right : change_ok change ≡ true = sym c.is_ok.ensures ∙ c.if-not-is_ok.false in
+    let known = ltb-true change.switch switch_count (and_parts (ltb change.switch switch_count) _ right).0 in
+    let few = tally_room c.loop-change.invariant.1 change.switch known in
+    let own : get_or c.loop-change.on c.from.result 0 ≡ get_or c.loop-change.on change.switch 0 =
+    ap (λ (j : ℕ). get_or c.loop-change.on j 0) c.from.ensures in
+    let cut = length-take i cs in
+    omega (arith, few, own, cut, c.requires)
+
+pub loop-change-preserved : goal.loop-change-preserved
+loop-change-preserved c =
+    let cs = c.args.changes.now in
+    let i = c.loop-change.change-index in
+    let change : Change = get_or cs i empty_change in
+    let right : change_ok change ≡ true = sym c.is_ok.ensures ∙ c.if-not-is_ok.false in
+    let known = ltb-true change.switch switch_count (and_parts (ltb change.switch switch_count) _ right).0 in
+    let next : take (i + 1) cs ≡ take i cs ++ change ∷ [] = take_next cs i empty_change c.loop-change-test.true in
+    rw (next, c.from.ensures) (
+      every_snoc change_ok (take i cs) change ∙ and_join _ _ c.loop-change.invariant.0 right,
+      tally_on c.loop-change.invariant.1 change known refl,
     )
 
-pub loop-i-preserved : goal.loop-i-preserved
-loop-i-preserved c =
-    let full : length c.args.changes ≡ max_changes = search rules in
-    let in_use : List Change = take c.args.n c.args.changes in
-    let turn : (let cs = in_use in
-    every change_ok cs ≡ (c.change_ok.result && every change_ok (drop (c.loop-i.i + 1) cs))) =
-    let at = c.loop-i in
-    let long = full in
-    at.invariant.1 ∙ every_ahead _ c.args.changes c.args.n at.i empty_change (omega arith) (omega arith) ∙ rw
-    c.change_ok.ensures in
-    let change : Change = get_or c.args.changes c.loop-i.i empty_change in
-    let known : change.switch <
-    switch_count = let right = sym c.change_ok.ensures ∙ c.if-not-change_ok.false in
-    ltb-true _ _ (and_parts (ltb change.switch switch_count) _ right).0 in
-    let at = c.loop-i in
-    let long = full in
-    let more = tally_on at.invariant.2 change known refl in (
-      omega arith,
-      turn ∙ rw c.if-not-change_ok.false,
-      rw (take_next c.args.changes at.i empty_change (omega arith))
-          more,
-    )
-
-pub loop-i-2-init : goal.loop-i-2-init
-loop-i-2-init c =
-    let end : c.loop-i.i ≡ c.args.n = omega arith in
-    (omega arith, ap (λ (i : ℕ). every change_empty (drop i c.args.changes)) (sym end))
-
-pub returns-then-not-change_empty : goal.returns-then-not-change_empty
-returns-then-not-change_empty c =
-    let full : length c.args.changes ≡ max_changes = search rules in
-    let unused : Bool = every change_empty (drop c.args.n c.args.changes) in
-    let turn2 :
-    unused ≡ (c.change_empty.result && every change_empty
-    (drop (c.loop-i-2.i + 1) c.args.changes)) = let at = c.loop-i-2 in
-    at.invariant.1 ∙ every_rest change_empty _ at.i empty_change
-    (omega (arith, full)) ∙ rw c.change_empty.ensures in
-    let used : unused ≡ false = turn2 ∙ rw
-    c.if-not-change_empty.true in
+pub returns-then-not-all : goal.returns-then-not-all
+returns-then-not-all c =
+    let tested : c.all.result ≡ list_all change_empty c.args.unused.now =
+    all_from_yields_List change_empty _ _ c.all.result c.all.ensures.ran (YieldsList-from_slice c.args.unused.now cc)
+    (λ x b q k. search (rules, tests)) in
+    let used = sym (tested ∙ list_all-every change_empty c.args.unused.now) ∙ c.if-not-all.true in
     rw (used, and-false)
 
-pub loop-i-2-preserved : goal.loop-i-2-preserved
-loop-i-2-preserved c =
-    let full : length c.args.changes ≡ max_changes = search rules in
-    let unused : Bool = every change_empty (drop c.args.n c.args.changes) in
-    let turn2 :
-    unused ≡ (c.change_empty.result && every change_empty
-    (drop (c.loop-i-2.i + 1) c.args.changes)) = let at = c.loop-i-2 in
-    at.invariant.1 ∙ every_rest change_empty _ at.i empty_change
-    (omega (arith, full)) ∙ rw c.change_empty.ensures in
-    (omega arith, turn2 ∙ rw c.if-not-change_empty.false)
+pub loop-switch-init : goal.loop-switch-init
+unfolding few_keys_below
+loop-switch-init c = refl
 
--- the keys
-pub returns-then-few_on : goal.returns-then-few_on
-returns-then-few_on c =
-    let full : length c.args.changes ≡ max_changes = search rules in
-    let in_use : List Change = take c.args.n c.args.changes in
-    let unused : Bool = every change_empty (drop c.args.n c.args.changes) in
-    let end : c.loop-i.i ≡ c.args.n = omega arith in
-    let right : every change_ok in_use ≡ true = c.loop-i.invariant.1 ∙ every_back _ _ c.args.n c.loop-i.i (omega arith) in
-    let counted : Tally c.loop-i.on
-    in_use = rw end at c.loop-i.invariant.2 in
-    let none : unused ≡ true = c.loop-i-2.invariant.1 ∙ every_end change_empty _ c.loop-i-2.i
-    (omega (arith, full)) in
-    let few = tally_few counted (sym c.few_on.ensures ∙ c.if-few_on.true) in
-    rw (right, none, few)
+pub returns-then-not-keys_fit : goal.returns-then-not-keys_fit
+returns-then-not-keys_fit c =
+    let cs = c.args.changes.now in
+    let many = few-fails switch_count c.loop-switch.switch cs c.loop-switch-test.true
+    (sym c.keys_fit.ensures ∙ c.if-not-keys_fit.true) in
+    rw (many, and-false)
 
-pub keys_ok-requires : goal.keys_ok-requires
-keys_ok-requires c =
-    let in_use : List Change = take c.args.n c.args.changes in
-    let end : c.loop-i.i ≡ c.args.n = omega arith in
-    let counted : Tally c.loop-i.on
-    in_use = rw end at c.loop-i.invariant.2 in
-    (c.requires, counted.each)
+pub loop-switch-preserved : goal.loop-switch-preserved
+loop-switch-preserved c =
+    let cs = c.args.changes.now in
+    let s = c.loop-switch.switch in
+    let whole : take c.loop-change.change-index cs ≡ cs = take_all c.loop-change.change-index cs c.loop-change-test.false in
+    elim c.else-on-from-gt-KEYS.branch [
+      | else-on-from-gt-KEYS-via-then-on-from-gt-KEYS+else-not-keys_fit w ↦
+          few-next s cs c.loop-switch.invariant
+          (leb-true (kinds_on s cs) max_keys (sym w.keys_fit.ensures ∙ w.if-not-keys_fit.false))
+      | else-on-from-gt-KEYS-via-else-on-from-gt-KEYS w ↦
+          let tally : Tally c.loop-change.on cs = rw whole at c.loop-change.invariant.1 in
+          let few : get_or c.loop-change.on s 0 ≤ max_keys = rw c.from-in-loop-switch.ensures at w.if-on-from-gt-KEYS.false in
+          few-next s cs c.loop-switch.invariant (tally_few tally s c.loop-switch-test.true few)
+    ]
 
 pub returns : goal.returns
 returns c =
-    let full : length c.args.changes ≡ max_changes = search rules in
-    let in_use : List Change = take c.args.n c.args.changes in
-    let unused : Bool = every change_empty (drop c.args.n c.args.changes) in
-    let right : every change_ok in_use ≡ true = c.loop-i.invariant.1 ∙ every_back _ _ c.args.n c.loop-i.i (omega arith) in
-    let none : unused ≡ true = c.loop-i-2.invariant.1 ∙ every_end change_empty _ c.loop-i-2.i
-    (omega (arith, full)) in
-    rw (right, none)
-    c.keys_ok.ensures
-
-pub offset_bounds-on-s : goal.offset_bounds-on-s
-offset_bounds-on-s c =
-    let change : Change = get_or c.args.changes c.loop-i.i empty_change in
-    let known : change.switch <
-    switch_count = let right = sym c.change_ok.ensures ∙ c.if-not-change_ok.false in
-    ltb-true _ _ (and_parts (ltb change.switch switch_count) _ right).0 in
-    search (rules, known)
-
-pub bounds-on-s : goal.bounds-on-s
-bounds-on-s c =
-    let change : Change = get_or c.args.changes c.loop-i.i empty_change in
-    let known : change.switch <
-    switch_count = let right = sym c.change_ok.ensures ∙ c.if-not-change_ok.false in
-    ltb-true _ _ (and_parts (ltb change.switch switch_count) _ right).0 in
-    search (rules, known)
-
-pub offset_bounds-on-s-in-loop-i : goal.offset_bounds-on-s-in-loop-i
-offset_bounds-on-s-in-loop-i c =
-    let change : Change = get_or c.args.changes c.loop-i.i empty_change in
-    let known : change.switch <
-    switch_count = let right = sym c.change_ok.ensures ∙ c.if-not-change_ok.false in
-    ltb-true _ _ (and_parts (ltb change.switch switch_count) _ right).0 in
-    search (rules, known)
-
-pub bounds-on-s-in-loop-i : goal.bounds-on-s-in-loop-i
-bounds-on-s-in-loop-i c =
-    let change : Change = get_or c.args.changes c.loop-i.i empty_change in
-    let known : change.switch <
-    switch_count = let right = sym c.change_ok.ensures ∙ c.if-not-change_ok.false in
-    ltb-true _ _ (and_parts (ltb change.switch switch_count) _ right).0 in
-    search (rules, known)
+    let cs = c.args.changes.now in
+    let end : c.loop-switch.switch ≡ switch_count = omega arith in
+    let whole : take c.loop-change.change-index cs ≡ cs = take_all c.loop-change.change-index cs c.loop-change-test.false in
+    let right : every change_ok cs ≡ true = rw whole at c.loop-change.invariant.0 in
+    let tested : c.all.result ≡ list_all change_empty c.args.unused.now =
+    all_from_yields_List change_empty _ _ c.all.result c.all.ensures.ran (YieldsList-from_slice c.args.unused.now cc)
+    (λ x b q k. search (rules, tests)) in
+    let unused = sym (tested ∙ list_all-every change_empty c.args.unused.now) ∙ c.if-not-all.false in
+    let few = ap (λ (s : ℕ). few_keys_below s cs) (sym end) ∙ c.loop-switch.invariant in
+    rw (right, unused, few)

@@ -3,5 +3,4 @@ use Rattle.rehearsal.proofs.Putting.{width_after}
 use Rattle.rehearsal.proofs.digits.width.Goals as goal
 
 pub returns : goal.returns
-returns c = width_after c.args.x c.zeros_in_front.result c.digits_of.ensures
-    c.zeros_in_front.ensures.1
+returns c = width_after c.args.x c.zeros_in_front.result c.digits_of.ensures c.zeros_in_front.ensures.rest

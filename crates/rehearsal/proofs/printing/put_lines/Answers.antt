@@ -1,45 +1,40 @@
--- `put_lines` meets its contract. The loop's invariant: the text of the first i lines is stored, and ends at `at`.
--- Assumes nothing.
+-- `put_lines` meets its contract: a line's bytes are put after those of the lines before it. Assumes nothing.
 use mathlib.Core.Path.{◌≡◌, refl, ap, ◌∙◌}
-use Prim.Native.Nat.{ℕ, ◌+◌, ◌≤◌, ◌<◌}
+use Prim.Native.Nat.{ℕ, ◌+◌, ◌<◌}
 use native.Mathlib.Omega.{arith}
-use borrow.Author.Rules.{rules}
-use lib.ListN.{length, take, get_or}
-use lib.Seq.{sets, length-sets}
+use lib.ListN.{length, get_or}
+use lib.Seq.{length-sets, take_all}
 use Rattle.rehearsal.specs.Lines.{text_of, text}
 use Rattle.rehearsal.specs.declared.Line.{Line}
 use Rattle.rehearsal.proofs.Texts.{length-next}
 use Rattle.rehearsal.proofs.Putting.{stored_next, room_next}
 use Rattle.rehearsal.proofs.printing.put_lines.Goals as goal
 
--- what an array of lines has past its end
+-- what lines have past their end
 abbrev blank : Line
 blank = record { ordinal = 0; answer = 0; figure = 0 }
 
-pub loop-i-init : goal.loop-i-init
+pub loop-line-init : goal.loop-line-init
 unfolding text
-loop-i-init c = (omega arith, search rules, refl, refl, refl)
+loop-line-init c = record { ends = refl; stored = refl }
 
-pub put_line-at-requires : goal.put_line-at-requires
-put_line-at-requires c = let loop = c.loop-i in
-    let fits : loop.at + length (text_of (get_or c.args.places loop.i blank)) ≤ length loop.out =
-    omega (
-      arith,
-      room_next c.args.places loop.i c.args.count blank (omega arith) (omega arith) loop.invariant.2,
-    ) in
-    fits
+pub put-at-requires : goal.put-at-requires
+put-at-requires c = let loop = c.loop-line in
+    let lines = c.args.lines.now in
+    let same : length loop.out ≡ length c.args.out.now = ap length loop.invariant.stored ∙ simp length-sets in
+    let room =
+    rw (take_all (length lines) lines (omega arith)) at
+    (room_next lines loop.line-index (length lines) blank (omega arith) (omega arith) loop.invariant.ends) in
+    omega (arith, room, c.requires)
 
-pub loop-i-preserved : goal.loop-i-preserved
-loop-i-preserved c = let loop = c.loop-i in
-    let put = c.put_line-at.ensures in
-    let within : loop.i < length c.args.places = omega arith in
-    let ends = put.0 ∙ ap (λ (n : ℕ). n + length (text_of (get_or c.args.places loop.i blank))) loop.invariant.2
-    ∙ length-next c.args.places loop.i blank within in
-    let stored =
-    stored_next c.args.places loop.i blank within c.args.out.now loop.at loop.invariant.2 loop.invariant.4 put.1 in
-    (omega arith, loop.invariant.1, ends, ap length put.1 ∙ simp length-sets loop.invariant.3, stored)
-
-pub returns : goal.returns
-returns c = let loop = c.loop-i in
-    let all : loop.i ≡ c.args.count = omega arith in
-    loop.invariant.4 ∙ ap (λ (i : ℕ). sets c.args.out.now 0 (text (take i c.args.places))) all
+pub loop-line-preserved : goal.loop-line-preserved
+loop-line-preserved c = let loop = c.loop-line in
+    let lines = c.args.lines.now in
+    let put = c.put-at.ensures in
+    let here : loop.line-index < length lines = omega arith in
+    record {
+      ends = put.0 ∙ ap (λ (n : ℕ). n + length (text_of (get_or lines loop.line-index blank))) loop.invariant.ends
+          ∙ length-next lines loop.line-index blank here;
+      stored = stored_next lines loop.line-index blank here c.args.out.now loop.at loop.invariant.ends loop.invariant.stored
+          put.1;
+    }

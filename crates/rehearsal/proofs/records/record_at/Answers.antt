@@ -1,37 +1,29 @@
 -- `record_at` meets its contract: the branches answer questions 30, 31 and 30.
-use mathlib.Core.Path.{◌≡◌, sym, ap, ◌∙◌}
-use mathlib.Core.Bool.{true}
-use mathlib.Core.List.{List}
-use Prim.Native.Nat.{ℕ}
+use mathlib.Core.Path.{sym, ◌∙◌}
 use native.Mathlib.Omega.{arith}
-use Rattle.lists.specs.Bytes.{byte_at}
-use Rattle.rehearsal.specs.Records.{is_kind, kind_of}
+use borrow.Author.Tests.{eqb-false}
+use Rattle.std.proofs.lemmas.Bool.{eqb-true}
+use Rattle.std.proofs.lemmas.Result.{err_from_is_err_and}
 use Rattle.rehearsal.proofs.Fields.{none_left, unknown, cut, found}
 use Rattle.rehearsal.proofs.records.record_at.Goals as goal
 
-pub returns-then-b-eq0 : goal.returns-then-b-eq0
-returns-then-b-eq0 c = none_left c.args.b.now (omega arith)
+pub returns-then-is_empty : goal.returns-then-is_empty
+returns-then-is_empty c =
+    none_left c.args.b.now (omega (arith, eqb-true _ _ (sym c.is_empty.ensures ∙ c.if-is_empty.true)))
 
-pub returns-then-not-is_kind : goal.returns-then-not-is_kind
-returns-then-not-is_kind c =
-    let bytes : List ℕ = c.args.b.now in
-    let tested : c.is_kind.result ≡ is_kind (byte_at bytes 0) = c.is_kind.ensures ∙ ap is_kind c.byte_at-byte.ensures in
-    unknown bytes (omega arith) (sym tested ∙ c.if-not-is_kind.true)
+pub returns-in_err-kind : goal.returns-in_err-kind
+returns-in_err-kind c =
+    let p = err_from_is_err_and c.from_residual.result c.from_residual.ensures.1 in
+    rw (p.1, p.2, c.in_err-kind.ensures.1)
+    (unknown c.args.b.now (omega (arith, eqb-false _ _ (sym c.is_empty.ensures ∙ c.if-is_empty.false)))
+    c.in_err-kind.ensures.0)
 
 pub returns-then-b-size_of : goal.returns-then-b-size_of
 returns-then-b-size_of c =
-    let bytes : List ℕ = c.args.b.now in
-    let tested : c.is_kind.result ≡ is_kind (byte_at bytes 0) = c.is_kind.ensures ∙ ap is_kind c.byte_at-byte.ensures in
-    let kind-known : c.kind_of-kind.result ≡ kind_of (byte_at bytes 0) = c.kind_of-kind.ensures ∙ ap kind_of c.byte_at-byte.ensures in
-    let is-kind : is_kind (byte_at bytes 0) ≡ true = sym tested ∙ c.if-not-is_kind.false in
-    cut bytes (omega arith) is-kind kind-known c.size_of.ensures
-    (omega arith)
+    cut c.args.b.now (omega (arith, eqb-false _ _ (sym c.is_empty.ensures ∙ c.if-is_empty.false)))
+    c.in_ok-kind.ensures.0 c.in_ok-kind.ensures.1 c.size_of.ensures (omega arith)
 
 pub returns : goal.returns
 returns c =
-    let bytes : List ℕ = c.args.b.now in
-    let tested : c.is_kind.result ≡ is_kind (byte_at bytes 0) = c.is_kind.ensures ∙ ap is_kind c.byte_at-byte.ensures in
-    let kind-known : c.kind_of-kind.result ≡ kind_of (byte_at bytes 0) = c.kind_of-kind.ensures ∙ ap kind_of c.byte_at-byte.ensures in
-    let is-kind : is_kind (byte_at bytes 0) ≡ true = sym tested ∙ c.if-not-is_kind.false in
-    found bytes (omega arith) is-kind kind-known c.size_of.ensures
-    (omega arith) c.record_of.ensures
+    found c.args.b.now (omega (arith, eqb-false _ _ (sym c.is_empty.ensures ∙ c.if-is_empty.false)))
+    c.in_ok-kind.ensures.0 c.in_ok-kind.ensures.1 c.size_of.ensures (omega arith) c.of.ensures

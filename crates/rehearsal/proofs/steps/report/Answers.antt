@@ -1,17 +1,9 @@
 -- `report` meets its contract: the branch decides whether the acknowledgement was made. Assumes nothing.
-use mathlib.Core.Path.{◌≡◌, sym, ◌∙◌}
+use mathlib.Core.Path.{sym, ◌∙◌}
 use native.Mathlib.Omega.{arith}
-use borrow.Author.Rules.{rules}
 use borrow.Author.Tests.{eq-eqb, ne_eqb}
-use lib.ListN.{length}
-use lib.Seq.{length-take-le}
 use Rattle.rehearsal.proofs.Making.{reported_by}
 use Rattle.rehearsal.proofs.steps.report.Goals as goal
-
-pub slice_bounds-write_acknowledgement-end : goal.slice_bounds-write_acknowledgement-end
-slice_bounds-write_acknowledgement-end c = let keys = c.switch_keys-keys.result in
-    let long : length keys ≡ 512 = search rules in
-    sym (length-take-le _ keys (omega arith))
 
 pub returns-then-r-ne-DONE : goal.returns-then-r-ne-DONE
 returns-then-r-ne-DONE c = let a = c.args in

@@ -1,5 +1,4 @@
--- `controllers_of` meets its contract. The loop's invariant: the controllers before i are set up, each with its own id.
--- Assumes nothing.
+-- `controllers_of` meets its contract: all are set up, each with its own id.
 use mathlib.Core.Path.{refl, ap}
 use Prim.Native.Nat.{ℕ}
 use native.Mathlib.Omega.{arith}
@@ -8,16 +7,16 @@ use Rattle.controller.specs.declared.Reply.{Reply}
 use Rattle.rehearsal.proofs.Filling.{next-placed, last_placed}
 use Rattle.rehearsal.proofs.worlds.controllers_of.Goals as goal
 
-pub loop-i-init : goal.loop-i-init
-loop-i-init c = (omega arith, refl, refl)
+pub loop-id-init : goal.loop-id-init
+loop-id-init c = (omega arith, refl, refl)
 
-pub loop-i-preserved : goal.loop-i-preserved
-loop-i-preserved c = let a = c.args in
-    let at = c.loop-i in
-    next-placed (λ (id : ℕ). (setup_of id a.n a.p).state) at.i _ at.invariant (omega arith) _
-    (ap (λ (r : Reply). r.state) c.setup-r.ensures)
+pub loop-id-preserved : goal.loop-id-preserved
+loop-id-preserved c = let a = c.args in
+    let at = c.loop-id in
+    next-placed (λ (id : ℕ). (setup_of id a.n a.p).state) at.id _ at.invariant (omega arith) _
+    (ap (λ (r : Reply). r.state) c.setup-in-loop-id.ensures)
 
 pub returns : goal.returns
 returns c = let a = c.args in
-    let at = c.loop-i in
-    last_placed (λ (id : ℕ). (setup_of id a.n a.p).state) at.i _ at.invariant (omega arith)
+    let at = c.loop-id in
+    last_placed (λ (id : ℕ). (setup_of id a.n a.p).state) at.id _ at.invariant (omega arith)

@@ -5,4 +5,4 @@ use Rattle.tag.proofs.bits.big1.Goals as goal
 
 pub returns : goal.returns
 unfolding Σ₁
-returns c = refl
+returns c = rw (c.rotate_right.ensures, c.rotate_right-2.ensures, c.rotate_right-3.ensures) refl

@@ -5,4 +5,4 @@ use Rattle.tag.proofs.bits.small0.Goals as goal
 
 pub returns : goal.returns
 unfolding σ₀
-returns c = refl
+returns c = rw (c.rotate_right.ensures, c.rotate_right-2.ensures) refl

@@ -1,12 +1,18 @@
--- Eight rounds, by two.
-use Rattle.std.proofs.Common.{◌+◌, arith}
-use Rattle.tag.proofs.Rounds.{two_more}
+-- Eight rounds, one by one: those below i are made.
+use Rattle.std.proofs.Common.{◌≡◌, ◌+◌, refl, arith}
+use Rattle.tag.specs.Sha256.{K}
+use Rattle.tag.proofs.Rounds.{round_more}
 use Rattle.tag.proofs.block.eight.Goals as goal
 
+pub loop-i-init : goal.loop-i-init
+loop-i-init c = λ i h. h
+
+pub loop-i-preserved : goal.loop-i-preserved
+unfolding K
+loop-i-preserved c = let loop = c.loop-i in
+    round_more c.args.w.now _ c.args.t loop.i c.args.s refl loop.invariant c.round-s.ensures
+
 pub returns : goal.returns
-returns c = let t = c.args.t in
-    let w = c.args.w.now in
-    let first = c.two-a.ensures in
-    let four = two_more w t (t + 2) (t + 4) first c.two-b.ensures (omega arith) in
-    let six = two_more w t (t + 4) (t + 6) four c.two-c.ensures (omega arith) in
-    two_more w t (t + 6) (t + 8) six c.two.ensures (omega arith)
+returns c = let loop = c.loop-i in
+    let last : loop.i ≡ c.args.t + 8 = omega arith in
+    rw last at loop.invariant

@@ -6,11 +6,11 @@ use Rattle.tag.proofs.block.words.Goals as goal
 
 pub loop-t-init : goal.loop-t-init
 unfolding sha.words
-loop-t-init c = (search rules, search rules, refl)
+loop-t-init c = (search rules, refl)
 
 pub loop-t-preserved : goal.loop-t-preserved
-loop-t-preserved c = (omega arith, search rules, words_step _ _ _ _ (omega arith) c.loop-t.invariant.2 c.word.ensures)
+loop-t-preserved c = (search rules, words_step _ _ _ _ (omega arith) c.loop-t.invariant.1 c.word.ensures)
 
 pub returns : goal.returns
 returns c = let e : c.loop-t.t ≡ 16 = omega arith in
-    rw e at c.loop-t.invariant.2
+    rw e at c.loop-t.invariant.1

@@ -1,10 +1,10 @@
--- The blocks from the front: those of the first i bytes are hashed.
-use Rattle.std.proofs.Common.{◌≡◌, ◌-◌, ◌/◌, ◌%◌, ◌≤◌, length}
+-- The blocks from the front: those that came are hashed, and the rest is still to come.
+use Rattle.std.proofs.Common.{◌≡◌, ◌*◌, length, drop}
+use Rattle.std.specs.Slice.Iter.{chunks_exact_rest, chunks_exact_size}
 use Rattle.tag.specs.Sha256 as sha
 use Rattle.tag.proofs.digest.blocks.Given as goal
 
-abbrev pub invariant-loop-i : goal.invariant-loop-i
-invariant-loop-i l = (l.i ≤ length l.m) × (l.i % 64 ≡ 0) × (l.h ≡ sha.blocks l.initial.h l.m (l.i / 64))
-
-abbrev pub decreases-loop-i : goal.decreases-loop-i
-decreases-loop-i l = length l.m - l.i
+abbrev pub invariant-loop-block : goal.invariant-loop-block
+invariant-loop-block l =
+    (chunks_exact_size l.block-iterator ≡ 64) × (chunks_exact_rest l.block-iterator ≡ drop (64 * length l.yielded) l.m)
+    × (l.h ≡ sha.blocks l.initial.h l.m (length l.yielded))

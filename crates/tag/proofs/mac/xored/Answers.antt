@@ -1,25 +1,12 @@
--- Byte by byte: the first i are done.
-use Rattle.std.proofs.Common.{refl, arith, rules}
+-- Byte by byte: the first are done.
+use Rattle.std.proofs.Common.{arith}
 use Rattle.tag.proofs.Macs.{xor_step, xor_end}
 use Rattle.tag.proofs.mac.xored.Goals as goal
 
-pub loop-i-init : goal.loop-i-init
-loop-i-init c = (search rules, search rules, search rules, refl)
-
-pub loop-i-preserved : goal.loop-i-preserved
-loop-i-preserved c = (omega arith, search rules, search rules, xor_step _ _ _ _ (omega arith) c.loop-i.invariant.3)
+pub loop-y-preserved : goal.loop-y-preserved
+loop-y-preserved c = let loop = c.loop-y in
+    xor_step c.args.b loop.y-items c.args.x loop.y-index (omega arith) loop.invariant
 
 pub returns : goal.returns
-returns c = xor_end _ _ _ c.loop-i.i (omega arith) c.loop-i.invariant.3
-
-pub bounds-b-i : goal.bounds-b-i
-bounds-b-i c = omega arith
-
-pub bounds-r-i : goal.bounds-r-i
-bounds-r-i c = omega arith
-
-pub overflow_add-i : goal.overflow_add-i
-overflow_add-i c = omega arith
-
-pub loop-i-smaller : goal.loop-i-smaller
-loop-i-smaller c = omega arith
+returns c = let loop = c.loop-y in
+    xor_end c.args.b loop.y-items c.args.x loop.y-index (omega arith) loop.invariant

@@ -1,10 +1,7 @@
--- Byte by byte: the first i are done.
-use Rattle.std.proofs.Common.{◌≡◌, ◌-◌, ◌≤◌, ◌++◌, length, take, drop}
+-- Byte by byte: the first are done.
+use Rattle.std.proofs.Common.{◌≡◌, ◌++◌, take, drop}
 use Rattle.tag.specs.Hmac.{xored}
 use Rattle.tag.proofs.mac.xored.Given as goal
 
-abbrev pub invariant-loop-i : goal.invariant-loop-i
-invariant-loop-i l = (l.i ≤ 64) × (length l.b ≡ 64) × (length l.r ≡ 64) × (l.r ≡ take l.i (xored l.b l.x) ++ drop l.i l.b)
-
-abbrev pub decreases-loop-i : goal.decreases-loop-i
-decreases-loop-i l = 64 - l.i
+abbrev pub invariant-loop-y : goal.invariant-loop-y
+invariant-loop-y l = l.y-items ≡ take l.y-index (xored l.initial.y-items l.x) ++ drop l.y-index l.initial.y-items

@@ -1,9 +1,0 @@
--- Each change is looked at once.
-use Prim.Native.Nat.{◌≤◌, ◌-◌}
-use Rattle.survey.proofs.keys.keys_in.Given as goal
-
-abbrev pub invariant-loop-i : goal.invariant-loop-i
-invariant-loop-i l = l.i ≤ 512
-
-abbrev pub decreases-loop-i : goal.decreases-loop-i
-decreases-loop-i l = 512 - l.i

@@ -1,9 +1,0 @@
--- Each switch is looked at once.
-use Prim.Native.Nat.{◌≤◌, ◌-◌}
-use Rattle.survey.proofs.uses.say_keys.Given as goal
-
-abbrev pub invariant-loop-i : goal.invariant-loop-i
-invariant-loop-i l = l.i ≤ 16
-
-abbrev pub decreases-loop-i : goal.decreases-loop-i
-decreases-loop-i l = 16 - l.i
