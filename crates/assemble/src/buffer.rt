@@ -1,5 +1,5 @@
 // Bytes in a place of fixed size.
-ghost use Rattle.std.specs.Prelude.{◌≤◌};
+ghost use Rattle.std.specs.Prelude.{◌≡◌, ◌≤◌, length};
 
 use std::fmt;
 
@@ -12,7 +12,9 @@ pub(crate) struct Buffer<const N: usize> {
 }
 
 impl<const N: usize> Buffer<N> {
-    pub(crate) fn new() -> Buffer<N> {
+    pub(crate) fn new() -> Buffer<N>
+        ensures { N ≡ length result.bytes }
+    {
         Buffer {
             bytes: [0; N],
             count: 0,

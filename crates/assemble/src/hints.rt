@@ -2,6 +2,7 @@
 // of the line.
 use crate::near::{are_alike, is_near};
 use crate::parse::{Expected, Fault};
+use lists::same;
 use notation::Kind;
 use std::fmt;
 use std::fmt::Write;
@@ -65,8 +66,8 @@ impl fmt::Display for Form<'_> {
             }
             Some(Kind::Keep) => "keep controller C switch S place P",
             Some(Kind::Deliver) => "deliver place P",
-            None if name == "controllers".as_bytes() => "controllers N",
-            None if name == "round".as_bytes() => "round",
+            None if same(name, b"controllers") => "controllers N",
+            None if same(name, b"round") => "round",
             None => "bytes B B .., at most 64",
         })?;
         match kind {
@@ -98,7 +99,7 @@ impl fmt::Display for Hint<'_> {
             Expected::Early => {
                 f.write_str("; all and round stand only in the script, behind end")
             }
-            Expected::Number { low: _, high: _ } if found == "all".as_bytes() => f.write_str(
+            Expected::Number { low: _, high: _ } if same(found, b"all") => f.write_str(
                 "; only decide, send and report take all, and decide only for its controller",
             ),
             _ => write!(f, "; the line's form is: {}", Form(self.name)),

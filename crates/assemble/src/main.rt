@@ -27,6 +27,7 @@ use prose::Errors;
 use std::fmt;
 use std::fmt::Write;
 use telling::Problem;
+use words::Words;
 
 const STDIN_FILENO: i32 = 0;
 
@@ -62,7 +63,11 @@ fn write(output: &Output) -> fmt::Result {
 fn assemble(text: &[u8]) -> fmt::Result {
     let mut progress = Progress::new();
     for (number, line) in (1..).zip(text.split_inclusive(|b| *b == b'\n')) {
-        if let Err(problem) = progress.add_line(line, number) {
+        let words = Words::new(line);
+        if words.next.is_empty() {
+            continue;
+        }
+        if let Err(problem) = progress.add_line(words, number) {
             return tell(number, problem);
         }
     }

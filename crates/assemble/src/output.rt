@@ -1,4 +1,7 @@
 // The bytes and the map so far: for each record its bytes, and the number of its line in decimal digits.
+ghost use Rattle.std.specs.Prelude.{◌≡◌, length};
+ghost use Rattle.notation.specs.Limits.{input_limit};
+
 use crate::buffer::Buffer;
 use crate::known::Known;
 use crate::pattern::Pattern;
@@ -9,6 +12,12 @@ use std::fmt::Write;
 // The most bytes of a map: a record has a byte at least, and the number of a line seven digits at most.
 const MAP: usize = 131072;
 
+fn for_input() -> Buffer<INPUT>
+    ensures { input_limit ≡ length result.bytes }
+{
+    Buffer::new()
+}
+
 #[derive(Clone, Copy)]
 pub(crate) struct Output {
     input: Buffer<INPUT>,
@@ -18,7 +27,7 @@ pub(crate) struct Output {
 impl Output {
     pub(crate) fn new() -> Output {
         Output {
-            input: Buffer::new(),
+            input: for_input(),
             map: Buffer::new(),
         }
     }

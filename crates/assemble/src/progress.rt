@@ -24,17 +24,13 @@ impl Progress {
         &self.output
     }
 
-    // One line more, with its number.
+    // One line more that has words, with its number.
     pub(crate) fn add_line<'a>(
         &mut self,
-        line: &'a [u8],
+        words: Words<'a>,
         number: usize,
     ) -> Result<(), Problem<'a>> {
-        let words = Words::new(line);
         let name = words.next;
-        if name.is_empty() {
-            return Ok(());
-        }
         let (pattern, next) = match record_of(words, self.known.before) {
             Ok(read) => read,
             Err(fault) => return Err(Problem::Faulty(name, fault)),

@@ -1,4 +1,6 @@
 // The words of a line. A word ends before a blank, a comment or the end of its line.
+use lists::same;
+
 fn is_blank(b: u8) -> bool {
     matches!(b, b' ' | b'\t' | b'\r')
 }
@@ -24,7 +26,7 @@ impl<'a> Words<'a> {
     }
 
     pub(crate) fn is_next(&self, word: &[u8]) -> bool {
-        self.next == word
+        same(self.next, word)
     }
 
     // Past the next word.

@@ -31,11 +31,11 @@ impl AgreedChange {
         does_cover(self.prefix, self.length, address)
     }
 
-    // Whether it is on a switch and its prefix covers an address.
+    // Whether it is on a switch and its prefix covers an address. The switch is asked first: most changes are on another.
     pub(crate) fn is_at(&self, switch: u32, address: u64) -> bool
         ensures { result ≡ is_at self.now switch address }
     {
-        self.is_covering(address) && self.switch == switch
+        self.switch == switch && self.is_covering(address)
     }
 }
 
@@ -72,9 +72,15 @@ pub(crate) fn waits_for(changes: &[AgreedChange], i: usize, j: usize) -> bool
     requires { (i < length changes.now) × (j < length changes.now) }
     ensures { result ≡ waits_for (change_at changes.now i) (change_at changes.now j) }
 {
-    let u = changes[i];
-    let v = changes[j];
-    j < i && (v.switch == u.switch || v.first == u.first && v.flow == u.flow)
+    let u = &changes[i];
+    let v = &changes[j];
+    if i <= j {
+        return false;
+    }
+    if v.switch == u.switch {
+        return true;
+    }
+    v.first == u.first && v.flow == u.flow
 }
 
 // Whether the change at place k waits for none that is not marked.

@@ -114,5 +114,9 @@ pub fn decide(mut c: Controller, switch: u8, serial: u32, cause: u8) -> Reply
         serial,
         cause,
     });
-    c.replied(k)
+    Reply {
+        answer: k,
+        offer: None,
+        state: c,
+    }
 }

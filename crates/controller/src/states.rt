@@ -83,7 +83,7 @@ impl Controller {
     }
 
     // An answer with the state, and nothing offered.
-    pub(crate) fn replied(self, answer: u8) -> Reply
+    fn replied(self, answer: u8) -> Reply
         ensures { result ≡ unchanged self answer }
     {
         Reply {

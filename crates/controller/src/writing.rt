@@ -55,5 +55,9 @@ pub fn write_share(c: Controller, keys: &[u8], switch: u8, frame: &mut [u8], at:
         ≡ share_written c keys.now switch frame.old at }
 {
     let k = c.write_share(keys, switch, frame, at);
-    c.replied(k)
+    Reply {
+        answer: k,
+        offer: None,
+        state: c,
+    }
 }

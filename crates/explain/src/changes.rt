@@ -1,18 +1,16 @@
 // The agreed changes: those that the playbook plans for the agreed decisions, numbered from 1 in order. One is made if
 // some record was answered 1 with its number, switch and rule.
-ghost use Rattle.std.specs.Prelude.{◌≡◌, ◌-◌};
-ghost use Rattle.std.specs.Iterator.{at_most};
-
-use crate::decisions::{Decision, Decisions};
+use crate::decisions::{Decision, LONGEST};
 use crate::plans::changes_of;
+use arrayvec::ArrayVec;
 use flow::Rule;
-use playbook::{Change, Playbook};
-use rehearsal::Deed;
-use std::{fmt, slice};
+use playbook::{Change, Playbook, limits};
+use rehearsal::{DEEDS, Deed};
+use std::fmt;
 use story::ChangeWords;
 
-// No list has more changes: 1,024 decisions, with 32 changes each.
-const MOST: u32 = 32768;
+// No more changes are agreed: those of the longest list.
+const MOST: usize = LONGEST * limits::CHANGES_OF_PLAN;
 
 /// A numbered change of a rule on a switch.
 #[derive(Clone, Copy)]
@@ -38,11 +36,6 @@ impl Numbered {
             && self.switch == other.switch
             && flow::same_rule(self.rule, other.rule)
     }
-
-    /// Whether a record made this change.
-    pub(crate) fn is_made_by(self, deed: &Deed) -> bool {
-        deed.answer == answer::APPLIED && self.is_same(Numbered::of(deed))
-    }
 }
 
 impl fmt::Display for Numbered {
@@ -55,6 +48,49 @@ impl fmt::Display for Numbered {
     }
 }
 
+/// The places, from 0, of the records that were answered 1.
+#[derive(Drop)]
+pub(crate) struct Applied {
+    places: ArrayVec<u16, DEEDS>,
+}
+
+impl Applied {
+    pub(crate) fn new() -> Applied {
+        Applied {
+            places: ArrayVec::new(),
+        }
+    }
+
+    /// These after the record at a place.
+    pub(crate) fn note(&mut self, place: u16, deed: &Deed) {
+        if deed.answer == answer::APPLIED {
+            let _ = self.places.try_push(place);
+        }
+    }
+
+    pub(crate) fn places(&self) -> &[u16] {
+        self.places.as_slice()
+    }
+}
+
+/// A record that was answered 1, and the change that it made.
+#[derive(Clone, Copy)]
+pub(crate) struct Making {
+    pub(crate) ordinal: u32,
+    pub(crate) change: Numbered,
+}
+
+impl Making {
+    /// That of the record at a place.
+    pub(crate) fn at(deeds: &[Deed], place: u16) -> Option<Making> {
+        let deed = deeds.get(usize::from(place))?;
+        Some(Making {
+            ordinal: u32::from(place) + 1,
+            change: Numbered::of(deed),
+        })
+    }
+}
+
 // The changes that a playbook plans for a decision.
 fn planned_for(book: &Playbook, decision: Decision) -> &[Change] {
     book.plans
@@ -64,57 +100,88 @@ fn planned_for(book: &Playbook, decision: Decision) -> &[Change] {
         .map_or(&[], |plan| changes_of(book, plan))
 }
 
-/// The changes that a playbook plans for decisions, numbered.
+// The place, from 0, of the change with a number.
+fn place_of(number: u32) -> Option<usize> {
+    (number as usize).checked_sub(1)
+}
+
+// The changes of an agreed decision, behind so many of the decisions before it.
+#[derive(Clone, Copy)]
+struct Planned<'a> {
+    before: usize,
+    changes: &'a [Change],
+}
+
+impl Default for Planned<'_> {
+    fn default() -> Self {
+        Planned {
+            before: 0,
+            changes: &[],
+        }
+    }
+}
+
+/// The agreed changes, decision by decision, and which of them are made.
 #[derive(Drop)]
 pub(crate) struct AgreedChanges<'a> {
-    book: &'a Playbook,
-    decisions: Decisions<'a>,
-    planned: slice::Iter<'a, Change>,
-    given: u32,
+    planned: ArrayVec<Planned<'a>, LONGEST>,
+    made: [bool; MOST],
+    total: usize,
 }
 
 impl<'a> AgreedChanges<'a> {
-    pub(crate) fn new(book: &'a Playbook, decisions: Decisions<'a>) -> AgreedChanges<'a> {
-        AgreedChanges {
-            book,
-            decisions,
-            planned: [].iter(),
-            given: 0,
+    /// The changes that a playbook plans for decisions, none of them made yet.
+    pub(crate) fn new(book: &'a Playbook, decisions: &[Decision]) -> AgreedChanges<'a> {
+        let mut agreed = AgreedChanges {
+            planned: ArrayVec::new(),
+            made: [false; MOST],
+            total: 0,
+        };
+        for decision in decisions {
+            agreed.plan(planned_for(book, *decision));
+        }
+        agreed
+    }
+
+    // The changes of one decision more.
+    fn plan(&mut self, changes: &'a [Change]) {
+        let before = self.total;
+        let _ = self.planned.try_push(Planned { before, changes });
+        self.total = before.saturating_add(changes.len());
+    }
+
+    /// A change was made, which may be an agreed one.
+    pub(crate) fn mark(&mut self, change: Numbered) {
+        if !self.has(change) {
+            return;
+        }
+        if let Some(made) = self.made.get_mut(place_of(change.number).unwrap_or(MOST)) {
+            *made = true;
         }
     }
 
-    // The next change of the decision at hand, or the first one of a later decision.
-    fn next_planned(&mut self) -> Option<&'a Change>
-        ensures { self.new.given ≡ self.old.given }
-    {
-        if let Some(change) = self.planned.next() {
-            return Some(change);
-        }
-        let book = self.book;
-        let changes = self.decisions.find_map(|decision| {
-            let changes = planned_for(book, decision);
-            (!changes.is_empty()).then_some(changes)
-        })?;
-        self.planned = changes.iter();
-        self.planned.next()
-    }
-}
-
-impl Iterator for AgreedChanges<'_> {
-    type Item = Numbered;
-
-    ghost remaining = { λ s. at_most (32768 - s.given) };
-
-    fn next(&mut self) -> Option<Numbered> {
-        if MOST <= self.given {
-            return None;
-        }
-        let change = self.next_planned()?;
-        self.given += 1;
+    /// The change with a number.
+    pub(crate) fn get(&self, number: u32) -> Option<Numbered> {
+        let all = self.planned.as_slice();
+        let place = place_of(number)?;
+        let upto = all.partition_point(|planned| planned.before <= place);
+        let planned = all.get(upto.checked_sub(1)?)?;
+        let change = planned.changes.get(place.checked_sub(planned.before)?)?;
         Some(Numbered {
-            number: self.given,
+            number,
             switch: change.switch,
             rule: change.rule,
         })
+    }
+
+    /// Whether a change is agreed.
+    pub(crate) fn has(&self, change: Numbered) -> bool {
+        self.get(change.number)
+            .is_some_and(|agreed| agreed.is_same(change))
+    }
+
+    /// Whether each of them is made, in order.
+    pub(crate) fn are_made(&self) -> &[bool] {
+        self.made.get(..self.total).unwrap_or(&self.made)
     }
 }

@@ -1,16 +1,16 @@
 // The decisions that each controller took, and which of them are agreed. A controller's decisions are the switch, serial
 // and cause of its records `decide` with answer 0, in order. Agreed is the list of which the most controllers' lists are
 // a beginning; of several such the longest; of several such that of the lowest controller.
-ghost use Rattle.std.specs.Prelude.{length};
-ghost use Rattle.std.specs.Iterator.{at_most};
-ghost use Rattle.std.specs.Slice.Iter.{iter_rest};
+use answer::limits;
+use arrayvec::ArrayVec;
+use rehearsal::{Deed, Kind};
+use std::fmt;
 
-use playbook::Playbook;
-use rehearsal::{Deed, Kind, Told, World};
-use std::{fmt, slice};
+/// A list has at most 1,024 decisions: a record `decide` has eight of a script's 8,192 bytes.
+pub(crate) const LONGEST: usize = 1024;
 
 /// A decision, as event 1 of switch 5, cause 2.
-#[derive(Clone, Copy, PartialEq, Eq)]
+#[derive(Clone, Copy, PartialEq, Eq, Default)]
 pub(crate) struct Decision {
     pub(crate) switch: u8,
     pub(crate) serial: u32,
@@ -27,81 +27,109 @@ impl fmt::Display for Decision {
     }
 }
 
-// The decision of a controller that a record is, if it is one.
-fn decision_by(controller: u8, deed: &Deed) -> Option<Decision> {
+// The decision that a record is, if one was taken.
+fn decision_of(deed: &Deed) -> Option<Decision> {
     let item = deed.item;
     let is_taken = matches!(item.kind, Kind::Decide) && deed.answer == answer::DONE;
-    (is_taken && deed.controller == controller).then_some(Decision {
+    is_taken.then_some(Decision {
         switch: deed.switch,
         serial: item.serial,
         cause: item.cause,
     })
 }
 
-/// The decisions of a controller among the records, in order.
-#[derive(Drop)]
-pub(crate) struct Decisions<'a> {
-    deeds: slice::Iter<'a, Deed>,
+// A decision, and the controller that took it.
+#[derive(Clone, Copy, Default)]
+struct Taken {
     controller: u8,
+    decision: Decision,
 }
 
-impl Iterator for Decisions<'_> {
-    type Item = Decision;
-
-    ghost remaining = { λ s. at_most (length (iter_rest s.deeds)) };
-
-    fn next(&mut self) -> Option<Decision> {
-        let controller = self.controller;
-        self.deeds.find_map(|deed| decision_by(controller, deed))
-    }
+/// The decisions that were taken, in the order of the records.
+#[derive(Drop)]
+pub(crate) struct Decisions {
+    taken: ArrayVec<Taken, LONGEST>,
 }
 
-/// What happened in a rehearsal: what its records did, and the world after the last one.
-#[derive(Clone, Copy)]
-pub(crate) struct Evening<'a> {
-    pub(crate) deeds: &'a [Deed],
-    pub(crate) world: &'a World,
-}
-
-impl<'a> Evening<'a> {
-    pub(crate) fn of(told: &'a Told) -> Evening<'a> {
-        Evening {
-            deeds: told.deeds.get(..told.count).unwrap_or(&told.deeds),
-            world: &told.world,
-        }
-    }
-
-    /// The playbook of the first controller, which is everybody's.
-    pub(crate) fn book(self) -> &'a Playbook {
-        &self.world.controllers[0].playbook
-    }
-
-    pub(crate) fn decisions(self, controller: u8) -> Decisions<'a> {
+impl Decisions {
+    pub(crate) fn new() -> Decisions {
         Decisions {
-            deeds: self.deeds.iter(),
-            controller,
+            taken: ArrayVec::new(),
         }
+    }
+
+    /// These after a record.
+    pub(crate) fn note(&mut self, deed: &Deed) {
+        if let Some(decision) = decision_of(deed) {
+            let controller = deed.controller;
+            let _ = self.taken.try_push(Taken {
+                controller,
+                decision,
+            });
+        }
+    }
+}
+
+/// The decisions of each controller, one list behind another, and where each of them ends.
+#[derive(Drop)]
+pub(crate) struct Lists {
+    decisions: ArrayVec<Decision, LONGEST>,
+    ends: [usize; limits::OF_CONTROLLERS],
+}
+
+impl Lists {
+    pub(crate) fn of_all(all: &Decisions) -> Lists {
+        let mut decisions = ArrayVec::new();
+        let mut ends = [0; limits::OF_CONTROLLERS];
+        for (controller, end) in ends.iter_mut().enumerate() {
+            for taken in all.taken.as_slice() {
+                if usize::from(taken.controller) == controller {
+                    let _ = decisions.try_push(taken.decision);
+                }
+            }
+            *end = decisions.len();
+        }
+        Lists { decisions, ends }
+    }
+
+    // Where the list of a controller ends, and that of the next one begins.
+    fn end_of(&self, controller: usize) -> usize {
+        self.ends.get(controller).copied().unwrap_or(0)
+    }
+
+    /// The decisions of a controller.
+    pub(crate) fn of(&self, controller: u8) -> &[Decision] {
+        let controller = usize::from(controller);
+        let begin = match controller.checked_sub(1) {
+            None => 0,
+            Some(before) => self.end_of(before),
+        };
+        self.decisions
+            .as_slice()
+            .get(begin..self.end_of(controller))
+            .unwrap_or(&[])
     }
 
     /// The place, from 0, at which a controller's list first differs from another's; none if it is a beginning of that.
-    pub(crate) fn first_difference(self, controller: u8, other: u8) -> Option<usize> {
-        let mut others = self.decisions(other);
-        self.decisions(controller)
+    pub(crate) fn first_difference(&self, controller: u8, other: u8) -> Option<usize> {
+        let mut others = self.of(other).iter();
+        self.of(controller)
+            .iter()
             .position(|decision| others.next() != Some(decision))
     }
 
-    // How many of the controllers' lists are a beginning of a controller's.
-    fn beginnings_of(self, controller: u8) -> usize {
-        (0..self.world.n)
+    // How many of n controllers' lists are a beginning of a controller's.
+    fn beginnings_of(&self, n: u8, controller: u8) -> usize {
+        (0..n)
             .filter(|other| self.first_difference(*other, controller).is_none())
             .count()
     }
 
-    /// The controller whose list is the agreed one. Of equal ones `max_by_key` gives the last, here the lowest.
-    pub(crate) fn agreed_by(self) -> u8 {
-        (0..self.world.n)
+    /// The controller, of n, whose list is the agreed one. Of equal ones `max_by_key` gives the last, here the lowest.
+    pub(crate) fn agreed_by(&self, n: u8) -> u8 {
+        (0..n)
             .rev()
-            .max_by_key(|c| (self.beginnings_of(*c), self.decisions(*c).count()))
+            .max_by_key(|c| (self.beginnings_of(n, *c), self.of(*c).len()))
             .unwrap_or(0)
     }
 }

@@ -1,7 +1,6 @@
 // What is told of the agreed changes: how many are made, which are not, and what was made besides.
-use crate::changes::Numbered;
+use crate::changes::{AgreedChanges, Making};
 use crate::ranges::{ITEMS, either};
-use crate::verdict::Verdict;
 use prose::Out;
 use rehearsal::Deed;
 use std::fmt;
@@ -38,13 +37,17 @@ fn say_made(out: &mut Out, total: usize, left: usize) -> fmt::Result {
 }
 
 // The agreed changes that are not made, and that there are so many of them.
-fn say_unmade(out: &mut Out, verdict: Verdict<'_>, count: usize) -> fmt::Result {
-    for change in verdict
-        .agreed_changes()
-        .filter(|change| !verdict.is_made(*change))
+fn say_unmade(out: &mut Out, agreed: &AgreedChanges<'_>, count: usize) -> fmt::Result {
+    for (_, number) in agreed
+        .are_made()
+        .iter()
+        .zip(1u32..)
+        .filter(|(is_made, _)| !**is_made)
         .take(ITEMS)
     {
-        writeln!(out, "  not made: {change}")?;
+        if let Some(change) = agreed.get(number) {
+            writeln!(out, "  not made: {change}")?;
+        }
     }
     if ITEMS < count {
         let more = count - ITEMS;
@@ -54,26 +57,29 @@ fn say_unmade(out: &mut Out, verdict: Verdict<'_>, count: usize) -> fmt::Result 
     Ok(())
 }
 
-// Whether a record made a change that is not agreed.
-fn is_strange(verdict: Verdict<'_>, deed: &Deed) -> bool {
-    deed.answer == answer::APPLIED && !verdict.is_agreed(Numbered::of(deed))
+// What the record at a place made, if that is not agreed.
+fn strange_at(agreed: &AgreedChanges<'_>, deeds: &[Deed], place: u16) -> Option<Making> {
+    let making = Making::at(deeds, place)?;
+    (!agreed.has(making.change)).then_some(making)
 }
 
 // The records that made a change that is not agreed.
-fn say_unagreed(out: &mut Out, verdict: Verdict<'_>) -> fmt::Result {
-    let deeds = verdict.evening.deeds;
-    for (deed, ordinal) in deeds
+fn say_unagreed(
+    out: &mut Out,
+    agreed: &AgreedChanges<'_>,
+    deeds: &[Deed],
+    places: &[u16],
+) -> fmt::Result {
+    for Making { ordinal, change } in places
         .iter()
-        .zip(1usize..)
-        .filter(|(deed, _)| is_strange(verdict, deed))
+        .filter_map(|place| strange_at(agreed, deeds, *place))
         .take(ITEMS)
     {
-        let change = Numbered::of(deed);
         writeln!(out, "  record {ordinal} made {change}, which is not agreed")?;
     }
-    let count = deeds
+    let count = places
         .iter()
-        .filter(|deed| is_strange(verdict, deed))
+        .filter(|place| strange_at(agreed, deeds, **place).is_some())
         .count();
     if ITEMS < count {
         let more = count - ITEMS;
@@ -83,14 +89,16 @@ fn say_unagreed(out: &mut Out, verdict: Verdict<'_>) -> fmt::Result {
     Ok(())
 }
 
-/// How many agreed changes are made, which are not, and what was made besides.
-pub(crate) fn say_changes(out: &mut Out, verdict: Verdict<'_>) -> fmt::Result {
-    let total = verdict.agreed_changes().count();
-    let left = verdict
-        .agreed_changes()
-        .filter(|change| !verdict.is_made(*change))
-        .count();
-    say_made(out, total, left)?;
-    say_unmade(out, verdict, left)?;
-    say_unagreed(out, verdict)
+/// How many agreed changes are made, which are not, and what the records at some places made besides.
+pub(crate) fn say_changes(
+    out: &mut Out,
+    agreed: &AgreedChanges<'_>,
+    deeds: &[Deed],
+    places: &[u16],
+) -> fmt::Result {
+    let are_made = agreed.are_made();
+    let left = are_made.iter().filter(|is_made| !**is_made).count();
+    say_made(out, are_made.len(), left)?;
+    say_unmade(out, agreed, left)?;
+    say_unagreed(out, agreed, deeds, places)
 }

@@ -8,7 +8,7 @@ use std::fmt;
 use std::fmt::Write;
 
 // A refusal, by how usual it is.
-#[derive(Clone, Copy, PartialEq, Eq)]
+#[derive(Clone, Copy)]
 enum Refusal {
     Repeat,
     Late,
@@ -28,16 +28,8 @@ fn refusal_of(deed: &Deed) -> Option<Refusal> {
     }
 }
 
-// How many records were refused so.
-fn count_of(deeds: &[Deed], refusal: Refusal) -> usize {
-    deeds
-        .iter()
-        .filter(|deed| refusal_of(deed) == Some(refusal))
-        .count()
-}
-
 // The usual refusals, counted.
-#[derive(Clone, Copy)]
+#[derive(Clone, Copy, Default)]
 struct Usual {
     repeats: usize,
     late: usize,
@@ -68,33 +60,48 @@ impl fmt::Display for Usual {
     }
 }
 
-// The ordinals of the other refusals, marked with their answers.
-fn others_of(deeds: &[Deed]) -> ArrayVec<Number, DEEDS> {
-    let mut numbers = ArrayVec::new();
-    for (deed, value) in deeds.iter().zip(1u32..) {
-        if refusal_of(deed) == Some(Refusal::Other) {
-            let mark = Some(deed.answer);
-            let _ = numbers.try_push(Number { value, mark });
-        }
-    }
-    numbers
+/// What was refused: the usual refusals, and the ordinals of the others, marked with their answers.
+#[derive(Drop)]
+pub(crate) struct Refusals {
+    usual: Usual,
+    others: ArrayVec<Number, DEEDS>,
 }
 
-pub(crate) fn say_refusals(out: &mut Out, deeds: &[Deed]) -> fmt::Result {
-    let usual = Usual {
-        repeats: count_of(deeds, Refusal::Repeat),
-        late: count_of(deeds, Refusal::Late),
-        unready: count_of(deeds, Refusal::Unready),
-    };
-    writeln!(out, "  usual refusals: {usual}")?;
-    let others = others_of(deeds);
-    if others.is_empty() {
+impl Refusals {
+    pub(crate) fn new() -> Refusals {
+        Refusals {
+            usual: Usual::default(),
+            others: ArrayVec::new(),
+        }
+    }
+
+    /// The same after a record with an ordinal.
+    pub(crate) fn note(&mut self, ordinal: u32, deed: &Deed) {
+        match refusal_of(deed) {
+            None => {}
+            Some(Refusal::Repeat) => self.usual.repeats = self.usual.repeats.saturating_add(1),
+            Some(Refusal::Late) => self.usual.late = self.usual.late.saturating_add(1),
+            Some(Refusal::Unready) => self.usual.unready = self.usual.unready.saturating_add(1),
+            Some(Refusal::Other) => {
+                let mark = Some(deed.answer);
+                let _ = self.others.try_push(Number {
+                    value: ordinal,
+                    mark,
+                });
+            }
+        }
+    }
+}
+
+pub(crate) fn say_refusals(out: &mut Out, refusals: &Refusals) -> fmt::Result {
+    writeln!(out, "  usual refusals: {}", refusals.usual)?;
+    if refusals.others.is_empty() {
         return writeln!(out, "  other refusals: none");
     }
     let records = Named {
         one: "record",
         many: "records",
-        numbers: others.as_slice(),
+        numbers: refusals.others.as_slice(),
     };
     writeln!(out, "  other refusals: {records}")
 }

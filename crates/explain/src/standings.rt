@@ -16,14 +16,11 @@ pub(crate) enum Standing {
 }
 
 pub(crate) fn standing_of(verdict: Verdict<'_>, controller: u8) -> Standing {
-    let evening = verdict.evening;
-    let took = evening.decisions(controller).count();
-    if evening
-        .first_difference(controller, verdict.agreed)
-        .is_some()
-    {
+    let lists = verdict.lists;
+    let took = lists.of(controller).len();
+    if lists.first_difference(controller, verdict.agreed).is_some() {
         Standing::Deviating
-    } else if took == evening.decisions(verdict.agreed).count() {
+    } else if took == lists.of(verdict.agreed).len() {
         Standing::Complete
     } else if took == 0 {
         Standing::Idle
@@ -34,7 +31,7 @@ pub(crate) fn standing_of(verdict: Verdict<'_>, controller: u8) -> Standing {
 
 // Whether some controller stands so.
 fn has_any(verdict: Verdict<'_>, standing: Standing) -> bool {
-    (0..verdict.evening.world.n).any(|c| standing_of(verdict, c) == standing)
+    (0..verdict.world.n).any(|c| standing_of(verdict, c) == standing)
 }
 
 // Whether a decision is agreed, in another place.
@@ -62,19 +59,18 @@ struct Deviation {
 
 impl Deviation {
     fn of(verdict: Verdict<'_>, controller: u8) -> Option<Deviation> {
-        let evening = verdict.evening;
-        let place = evening.first_difference(controller, verdict.agreed)?;
-        let own = evening.decisions(controller).nth(place)?;
-        let agreed = evening.decisions(verdict.agreed).nth(place)?;
-        let elsewhere = evening
-            .decisions(verdict.agreed)
-            .position(|decision| decision == own);
+        let lists = verdict.lists;
+        let place = lists.first_difference(controller, verdict.agreed)?;
+        let own = lists.of(controller).get(place)?;
+        let all = lists.of(verdict.agreed);
+        let agreed = all.get(place)?;
+        let elsewhere = all.iter().position(|decision| decision == own);
         Some(Deviation {
             controller,
             place,
-            own,
+            own: *own,
             elsewhere: Elsewhere(elsewhere),
-            agreed,
+            agreed: *agreed,
         })
     }
 }
@@ -92,7 +88,7 @@ impl fmt::Display for Deviation {
 }
 
 fn say_deviations(out: &mut Out, verdict: Verdict<'_>) -> fmt::Result {
-    for controller in 0..verdict.evening.world.n {
+    for controller in 0..verdict.world.n {
         if let Some(deviation) = Deviation::of(verdict, controller) {
             writeln!(out, "  {deviation}")?;
         }
@@ -132,14 +128,14 @@ fn say_order(out: &mut Out, verdict: Verdict<'_>, count: usize) -> fmt::Result {
     } else if has_any(verdict, Standing::Late) || has_any(verdict, Standing::Idle) {
         say_agreed(out, count)
     } else {
-        say_taken(out, verdict.evening.world.n, count)
+        say_taken(out, verdict.world.n, count)
     }
 }
 
 fn say_late(out: &mut Out, verdict: Verdict<'_>, count: usize) -> fmt::Result {
-    for controller in 0..verdict.evening.world.n {
+    for controller in 0..verdict.world.n {
         if standing_of(verdict, controller) == Standing::Late {
-            let took = verdict.evening.decisions(controller).count();
+            let took = verdict.lists.of(controller).len();
             writeln!(
                 out,
                 "  controller {controller} took {took} of {count} agreed decisions"
@@ -150,7 +146,7 @@ fn say_late(out: &mut Out, verdict: Verdict<'_>, count: usize) -> fmt::Result {
 }
 
 fn say_idle(out: &mut Out, verdict: Verdict<'_>) -> fmt::Result {
-    let idle = chosen(verdict.evening.world.n, |c| {
+    let idle = chosen(verdict.world.n, |c| {
         standing_of(verdict, c) == Standing::Idle
     });
     if idle.is_empty() {
@@ -161,7 +157,7 @@ fn say_idle(out: &mut Out, verdict: Verdict<'_>) -> fmt::Result {
 }
 
 pub(crate) fn say_decisions(out: &mut Out, verdict: Verdict<'_>) -> fmt::Result {
-    let count = verdict.evening.decisions(verdict.agreed).count();
+    let count = verdict.lists.of(verdict.agreed).len();
     if has_any(verdict, Standing::Deviating) {
         say_deviations(out, verdict)?;
     } else {

@@ -12,42 +12,59 @@
 // record was answered 1 with its number, switch and rule (changes.rt).
 // A controller was not told of its undone changes whose number is not above the last applied number of their switch
 // (untold.rt). Usual refusals are 2, 16 and 26 (refusals.rt).
-use crate::changes::{AgreedChanges, Numbered};
-use crate::decisions::Evening;
+use crate::changes::{AgreedChanges, Applied, Making};
+use crate::decisions::{Decisions, Lists};
 use crate::ranges::{Named, Number, chosen, either};
-use crate::shares::is_made_up_for;
+use crate::refusals::Refusals;
+use crate::shares::Shares;
 use crate::standings::{Standing, standing_of};
 use crate::{made, refusals, standings, untold};
 use prose::Out;
+use rehearsal::{Deed, World};
 use std::fmt;
 use std::fmt::Write;
 
-/// What a verdict rests on: what happened, and the controller whose decisions are the agreed ones.
+/// What a verdict needs to know of the records.
+#[derive(Drop)]
+pub(crate) struct Notes {
+    decisions: Decisions,
+    shares: Shares,
+    applied: Applied,
+    refusals: Refusals,
+}
+
+impl Notes {
+    pub(crate) fn new() -> Notes {
+        Notes {
+            decisions: Decisions::new(),
+            shares: Shares::new(),
+            applied: Applied::new(),
+            refusals: Refusals::new(),
+        }
+    }
+
+    /// These after the record at a place, from 0.
+    pub(crate) fn note(&mut self, deeds: &[Deed], place: u16, deed: &Deed) {
+        self.decisions.note(deed);
+        self.shares.note(deeds, place, deed);
+        self.applied.note(place, deed);
+        self.refusals.note(u32::from(place) + 1, deed);
+    }
+}
+
+/// What a verdict rests on: the world after the last record, what was noted of the records, each controller's decisions,
+/// and the controller whose decisions are the agreed ones.
 #[derive(Clone, Copy)]
 pub(crate) struct Verdict<'a> {
-    pub(crate) evening: Evening<'a>,
+    pub(crate) world: &'a World,
+    pub(crate) notes: &'a Notes,
+    pub(crate) lists: &'a Lists,
     pub(crate) agreed: u8,
 }
 
-impl<'a> Verdict<'a> {
-    pub(crate) fn agreed_changes(self) -> AgreedChanges<'a> {
-        let evening = self.evening;
-        AgreedChanges::new(evening.book(), evening.decisions(self.agreed))
-    }
-
-    pub(crate) fn is_agreed(self, change: Numbered) -> bool {
-        self.agreed_changes().any(|agreed| agreed.is_same(change))
-    }
-
-    pub(crate) fn is_made(self, change: Numbered) -> bool {
-        self.evening
-            .deeds
-            .iter()
-            .any(|deed| change.is_made_by(deed))
-    }
-
+impl Verdict<'_> {
     fn is_made_up_for(self, controller: u8) -> bool {
-        is_made_up_for(controller, self.evening.deeds)
+        self.notes.shares.is_made_up_for(controller)
     }
 
     fn strays(self, controller: u8) -> bool {
@@ -56,7 +73,7 @@ impl<'a> Verdict<'a> {
 }
 
 fn say_made_up(out: &mut Out, verdict: Verdict<'_>) -> fmt::Result {
-    let found = chosen(verdict.evening.world.n, |c| verdict.is_made_up_for(c));
+    let found = chosen(verdict.world.n, |c| verdict.is_made_up_for(c));
     if found.is_empty() {
         return Ok(());
     }
@@ -105,7 +122,7 @@ fn say_strays(out: &mut Out, strays: &[Number], may: May) -> fmt::Result {
 }
 
 fn say_promise(out: &mut Out, verdict: Verdict<'_>) -> fmt::Result {
-    let n = verdict.evening.world.n;
+    let n = verdict.world.n;
     let strays = chosen(n, |c| verdict.strays(c));
     let may = May::of(n);
     if strays.is_empty() {
@@ -115,17 +132,37 @@ fn say_promise(out: &mut Out, verdict: Verdict<'_>) -> fmt::Result {
     }
 }
 
-/// The verdict on a rehearsal after its last record.
-pub(crate) fn say_verdict(out: &mut Out, evening: Evening<'_>) -> fmt::Result {
+// How many agreed changes are made, which are not, and what was made besides. The playbook of the first controller is
+// everybody's.
+fn say_changes(out: &mut Out, verdict: Verdict<'_>, deeds: &[Deed]) -> fmt::Result {
+    let book = &verdict.world.controllers[0].playbook;
+    let places = verdict.notes.applied.places();
+    let mut agreed = AgreedChanges::new(book, verdict.lists.of(verdict.agreed));
+    for making in places.iter().filter_map(|place| Making::at(deeds, *place)) {
+        agreed.mark(making.change);
+    }
+    made::say_changes(out, &agreed, deeds, places)
+}
+
+/// The verdict on a rehearsal: what its records did, the world after the last one, and what was noted on the way.
+pub(crate) fn say_verdict(
+    out: &mut Out,
+    deeds: &[Deed],
+    world: &World,
+    notes: &Notes,
+) -> fmt::Result {
+    let lists = Lists::of_all(&notes.decisions);
     let verdict = Verdict {
-        evening,
-        agreed: evening.agreed_by(),
+        world,
+        notes,
+        lists: &lists,
+        agreed: lists.agreed_by(world.n),
     };
     writeln!(out, "\nverdict")?;
-    made::say_changes(out, verdict)?;
+    say_changes(out, verdict, deeds)?;
     standings::say_decisions(out, verdict)?;
     say_made_up(out, verdict)?;
     say_promise(out, verdict)?;
-    untold::say_untold(out, evening.world)?;
-    refusals::say_refusals(out, evening.deeds)
+    untold::say_untold(out, world)?;
+    refusals::say_refusals(out, &notes.refusals)
 }

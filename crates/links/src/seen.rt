@@ -2,6 +2,7 @@
 ghost use Rattle.std.specs.Prelude.{◌≤◌, length};
 
 use crate::records::Entry;
+use lists::same;
 
 // The most ports or client lines, and the most names.
 const PLACES: usize = 256;
@@ -88,7 +89,7 @@ impl<'a> Names<'a> {
     // A client is numbered from 1 by its name. One that is new is added, where there is room for it.
     pub(crate) fn client_of(&mut self, name: &'a [u8]) -> Option<u8> {
         for (i, known) in self.names().iter().enumerate() {
-            if *known == name {
+            if same(known, name) {
                 return Some((i + 1) as u8);
             }
         }

@@ -1,9 +1,15 @@
 -- The fields of records and messages, and how many bytes each has (document 01, "Bytes" and "Rehearsal program").
-use Rattle.std.specs.Prelude.{ℕ, ◌+◌, List, [], ◌∷◌}
+use Rattle.std.specs.Prelude.{ℕ, ◌+◌, ◌-◌, List, [], ◌∷◌, Option, Some, None, eqb}
+use Rattle.answer.specs.Ask.{pick}
 use Rattle.tag.specs.Tags.{tag_length}
 use Rattle.message.specs.Layout.{share_length}
 use Rattle.notation.specs.declared.fields.Field.{Field}
 use Rattle.notation.specs.declared.fields.Field.TheVariants as fields
+
+-- the field at a place from 0, none past the last
+unfoldable pub field_at : List Field → ℕ → Option Field
+field_at [] i = None
+field_at (f ∷ fs) i = pick (eqb i 0) (Some f) (field_at fs (i - 1))
 
 -- bytes of a field
 abbrev pub width_of : Field → ℕ

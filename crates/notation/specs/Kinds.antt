@@ -1,11 +1,11 @@
 -- The kinds of records: each with its name and its fields in their order, in one table (document 01, "Bytes" and
 -- "Rehearsal program"); and the fields of a share, which is no record.
-use Rattle.std.specs.Prelude.{◌≡◌, ℕ, ◌+◌, List, [], ◌∷◌, eqb, Result, MatchResult}
+use Rattle.std.specs.Prelude.{◌≡◌, ℕ, ◌+◌, List, [], ◌∷◌, eqb, Option, Result, MatchResult}
 use Prim.Native.String.{String}
 use Rattle.answer.specs.Ask.{pick}
 use Rattle.message.specs.Layout.{share_kind}
 use Rattle.notation.specs.Text.{bytes_of}
-use Rattle.notation.specs.Fields.{widths}
+use Rattle.notation.specs.Fields.{field_at, widths}
 use Rattle.notation.specs.declared.fields.Field.{Field}
 use Rattle.notation.specs.declared.fields.Field.TheVariants as fields
 use Rattle.notation.specs.declared.kinds.Kind.{Kind}
@@ -89,6 +89,10 @@ share_fields = fields.Controller ∷ fields.Switch ∷ fields.Number ∷ fields.
 -- what follows the kind of a record or of a share
 unfoldable pub fields_of : ℕ → List Field
 fields_of kind = pick (eqb kind share_kind) share_fields (of_kind kind records [] (λ r. r.fields))
+
+-- the field at a place behind the kind, none past the last
+abbrev pub field_of : ℕ → ℕ → Option Field
+field_of kind i = field_at (fields_of kind) i
 
 -- a byte is that of the kind, or no record has a kind with this byte
 abbrev pub Decodes : ℕ → Result Kind UnknownKind → Type 0

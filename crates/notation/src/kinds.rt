@@ -1,10 +1,13 @@
 // The kinds of records (document 01, "Bytes" and "Rehearsal program"): the first byte, the name, the fields and the size
 // of each. The same table as specs/Kinds.antt.
-ghost use Rattle.std.specs.Prelude.{◌≡◌, ◌≤◌};
-ghost use Rattle.notation.specs.Kinds.{byte_of, fields_of, record_size, Decodes};
+ghost use Rattle.std.specs.Prelude.{◌≡◌, ◌≤◌, length};
+ghost use Rattle.lists.specs.Bytes.{equal};
+ghost use Rattle.notation.specs.Kinds.{byte_of, fields_of, field_of, record_size, Decodes};
 ghost use Rattle.notation.specs.Names.{kind_name, kind_named};
 
-use crate::{Field, MESSAGE_AT};
+use crate::{Field, MESSAGE_AT, share_fields};
+use lists::same;
+use message::layout;
 
 /// A kind of record: its first byte.
 #[derive(Clone, Copy, Debug, PartialEq, Eq)]
@@ -120,7 +123,7 @@ impl Kind {
             Kind::Decide => 8,
             Kind::Send => 3,
             Kind::Report => 3,
-            Kind::Raw => MESSAGE_AT + message::layout::SHARE_LENGTH,
+            Kind::Raw => MESSAGE_AT + layout::SHARE_LENGTH,
             Kind::Keep => 4,
             Kind::Deliver => 2,
         }
@@ -131,10 +134,68 @@ impl Kind {
         ensures { result ≡ kind_named word.now }
     {
         for kind in Kind::ALL {
-            if word == kind.name().as_bytes() {
+            if is_named(word, kind.name()) {
                 return Some(kind);
             }
         }
         None
     }
+}
+
+/// The bytes of a record that begins with this byte; 0 where no record does.
+pub fn size_of(kind: u8) -> usize
+    ensures { result ≡ record_size kind }
+{
+    match Kind::try_from(kind) {
+        Ok(kind) => kind.size(),
+        Err(_) => 0,
+    }
+}
+
+// What follows the first byte of a record or of a share; nothing where neither begins with it.
+#[tactic(auto, using(crate::proofs::Rows::no_fields), unfolding(crate::specs::Kinds::fields_of))]
+fn fields_of(kind: u8) -> &'static [Field]
+    ensures { result.now ≡ fields_of kind }
+{
+    if kind == layout::SHARE {
+        return share_fields();
+    }
+    match Kind::try_from(kind) {
+        Ok(kind) => kind.fields(),
+        Err(_) => &[],
+    }
+}
+
+/// How many fields follow the first byte of a record or of a share.
+#[tactic(auto, using(crate::proofs::Rows::few_fields))]
+pub fn count_of(kind: u8) -> u8
+    ensures { result ≡ length (fields_of kind) }
+{
+    fields_of(kind).len() as u8
+}
+
+/// The field of a record or of a share at a place from 0, none past the last.
+#[tactic(auto, using(crate::proofs::Places::lent_at))]
+pub fn field_of(kind: u8, i: u8) -> Option<Field>
+    ensures { result ≡ field_of kind i }
+{
+    fields_of(kind).get(i as usize).copied()
+}
+
+/// The name of the records that begin with this byte; it is empty where no record does.
+#[tactic(auto, using(crate::proofs::Rows::no_name))]
+pub fn name_of_kind(kind: u8) -> &'static str
+    ensures { result.now ≡ kind_name kind }
+{
+    match Kind::try_from(kind) {
+        Ok(kind) => kind.name(),
+        Err(_) => "",
+    }
+}
+
+/// Whether a word is a name.
+pub fn is_named(word: &[u8], name: &str) -> bool
+    ensures { result ≡ equal word.now name.now }
+{
+    same(word, name.as_bytes())
 }

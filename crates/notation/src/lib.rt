@@ -8,7 +8,7 @@ mod kinds;
 mod pairs;
 
 pub use fields::{Field, share_fields};
-pub use kinds::{Kind, UnknownKind};
+pub use kinds::{Kind, UnknownKind, count_of, field_of, is_named, name_of_kind, size_of};
 pub use pairs::{Pair, giver_of, tag_by};
 
 // The most bytes that an input may have, and the most of its text.

@@ -26,13 +26,6 @@ struct Asked {
     port: Option<u16>,
 }
 
-impl Asked {
-    // Whether another share asks for a different rule under this number at this switch.
-    fn is_contradicted_by(&self, other: &Asked) -> bool {
-        self.change == other.change && *self != *other
-    }
-}
-
 // What a column's share asks for, the letter of its rule, and whether no share before it asks for the same.
 #[derive(Clone, Copy)]
 struct Share {
@@ -41,10 +34,11 @@ struct Share {
     first: bool,
 }
 
-// The share of each column that has one.
+// The share of each column that has one, and its letter where it is shown.
 #[derive(Drop)]
 pub(crate) struct Shares {
     columns: [Option<Share>; DEEDS],
+    letters: [Option<char>; DEEDS],
 }
 
 fn asked_in(deed: &Deed) -> Asked {
@@ -89,6 +83,18 @@ fn share_after(before: &[Option<Share>], asked: Asked) -> Share {
     }
 }
 
+// Whether different rules are asked for under a share's number at its switch: then one of them is not the first.
+fn is_disputed(columns: &[Option<Share>], share: &Share) -> bool {
+    columns.iter().flatten().any(|other| other.letter != FIRST
+        && other.asked.change == share.asked.change)
+}
+
+// The letter of a column, if it has one.
+fn shown(columns: &[Option<Share>], column: &Option<Share>) -> Option<char> {
+    let share = (*column)?;
+    is_disputed(columns, &share).then_some(share.letter)
+}
+
 impl Shares {
     pub(crate) fn of(deeds: &[Deed]) -> Shares
         requires { length deeds.now ≤ most_lines }
@@ -99,35 +105,32 @@ impl Shares {
                 columns[column] = Some(share_after(&columns[..column], asked_in(deed)));
             }
         }
-        Shares { columns }
-    }
-
-    // Whether different rules are asked for under a share's number at its switch.
-    fn is_disputed(&self, share: &Share) -> bool {
-        self.columns
-            .iter()
-            .flatten()
-            .any(|other| share.asked.is_contradicted_by(&other.asked))
+        let mut letters = [None; DEEDS];
+        for (letter, column) in letters.iter_mut().zip(&columns) {
+            *letter = shown(&columns, column);
+        }
+        Shares { columns, letters }
     }
 
     // The letter of a column, if it has one.
     pub(crate) fn letter(&self, column: usize) -> Option<char> {
-        let share = self.columns.get(column).copied().flatten()?;
-        self.is_disputed(&share).then_some(share.letter)
+        self.letters.get(column).copied().flatten()
     }
 
     // The letter of a column in which its rule is first met.
     pub(crate) fn first_letter(&self, column: usize) -> Option<char> {
         let share = self.columns.get(column).copied().flatten()?;
-        (share.first && self.is_disputed(&share)).then_some(share.letter)
+        if share.first {
+            self.letter(column)
+        } else {
+            None
+        }
     }
 
     // How many rules have letters.
     pub(crate) fn disputes(&self) -> usize {
-        self.columns
-            .iter()
-            .flatten()
-            .filter(|share| share.first && self.is_disputed(share))
+        (0..DEEDS)
+            .filter(|column| self.first_letter(*column).is_some())
             .count()
     }
 }

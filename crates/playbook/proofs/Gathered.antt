@@ -3,18 +3,18 @@
 use mathlib.Core.Path.{◌≡◌, refl, sym, ap, ◌∙◌}
 use mathlib.Core.List.{List, [], ◌∷◌, ◌++◌}
 use mathlib.Core.Bool.{true, false}
-use Prim.Native.Nat.{ℕ, ◌+◌, ◌≤◌, ◌<◌}
+use Prim.Native.Nat.{ℕ, zero, suc, ◌+◌, ◌≤◌, ◌<◌}
 use native.Mathlib.Numerals.{add-one}
 use native.Mathlib.Omega.{arith}
 use lib.Dec.{leb, eqb}
-use lib.ListN.{length, take, drop, set, get_or, replicate, length-set, length-append, get_or-replicate, take-append-drop}
+use lib.ListN.{length, drop, set, get_or, replicate, length-set, length-append, get_or-replicate}
 use lib.Seq.{get_or-set_same, get_or-set_other}
-use borrow.Author.Tests.{le-leb, lt-leb}
+use borrow.Author.Tests.{le-leb, lt-leb, eq-eqb, ne_eqb}
 use Rattle.std.proofs.lemmas.Bool.{leb-false}
 use Rattle.answer.specs.Limits.{switch_count}
 use Rattle.answer.proofs.Bools.{by_bool, by_eq, tf}
 use Rattle.lists.specs.Kinds.{among, kinds}
-use Rattle.lists.proofs.Members.{among_snoc, kinds-known, kinds_new, kinds-few}
+use Rattle.lists.proofs.Members.{among_snoc, kinds-known, kinds_new, kinds_more, kinds-few}
 use Rattle.lists.proofs.Pigeonhole.{kinds-within}
 use Rattle.flow.specs.Rules.{Key, rule_key, same_key}
 use Rattle.flow.proofs.Order.{key_sound, key_mine}
@@ -23,7 +23,7 @@ use Rattle.playbook.specs.Books.{keys_on, kinds_on}
 use Rattle.playbook.specs.Storing.{few_keys_below}
 use Rattle.playbook.specs.Gathering.{with_key, Gathered, Collected}
 use Rattle.playbook.specs.declared.Change.{Change}
-use Rattle.playbook.proofs.Few.{keys_on_lem, keys_off, few_below, kinds_grow}
+use Rattle.playbook.proofs.Few.{keys_on_lem, keys_off, few_below}
 
 -- a key behind others counts as in front of them
 kinds-turned : (k : Key) (ks : List Key) → kinds same_key (ks ++ k ∷ []) ≡ kinds same_key (k ∷ ks)
@@ -63,6 +63,25 @@ module _ {ms ks : List Key} (g : Gathered ms ks) (k : Key) where
   gathered_more =
       by_bool (among same_key k ms) (λ e. rw e (gathered_known e)) (λ e. rw e (gathered_new e))
 
+  -- the same for a key in front
+  pub gathered_before : Gathered (with_key k ms) (k ∷ ks)
+  unfolding among
+  gathered_before =
+      by_bool (among same_key k ms)
+      (λ e. rw e (record {
+        counted = g.counted ∙ sym (kinds-known same_key k ks (sym (g.members k) ∙ e));
+        members = λ j. by_bool (same_key k j)
+            (λ s. rw s (ap (λ (i : Key). among same_key i ms) (sym (key_sound k j s)) ∙ e))
+            (λ s. rw s (g.members j));
+      }))
+      (λ e. rw e (record {
+        counted =
+            let more = length-append ms (k ∷ []) in
+            let next = kinds_new same_key k ks (sym (g.members k) ∙ e) in
+            omega (arith, g.counted);
+        members = λ j. rw (among_snoc same_key j k ms, g.members j);
+      }))
+
 -- a change more, on the switch whose keys are gathered, and on another; and whether its switch has too many keys
 pub own_more : (ms : List Key) (s : ℕ) (cs : List Change) (c : Change) → Gathered ms (keys_on s cs) → c.switch ≡ s
     → Gathered (with_key (rule_key c.rule) ms) (keys_on s (cs ++ c ∷ []))
@@ -76,13 +95,32 @@ pub gathered_fits : (ms : List Key) (s : ℕ) (cs : List Change) → Gathered ms
     → leb (length ms) max_keys ≡ leb (kinds_on s cs) max_keys
 gathered_fits ms s cs g = ap (λ (n : ℕ). leb n max_keys) g.counted
 
--- too many keys of the first changes are too many keys
-pub kinds-over : (s : ℕ) (cs : List Change) (i : ℕ) → leb (kinds_on s (take i cs)) max_keys ≡ false
+-- a change in front
+pub own_before : (ms : List Key) (s : ℕ) (cs : List Change) (c : Change) → Gathered ms (keys_on s cs) → c.switch ≡ s
+    → Gathered (with_key (rule_key c.rule) ms) (keys_on s (c ∷ cs))
+unfolding keys_on
+own_before ms s cs c g e = rw (eq-eqb c.switch s e) (gathered_before g (rule_key c.rule))
+
+pub other_before : (ms : List Key) (s : ℕ) (cs : List Change) (c : Change) → Gathered ms (keys_on s cs)
+    → (c.switch ≡ s → ⊥) → Gathered ms (keys_on s (c ∷ cs))
+unfolding keys_on
+other_before ms s cs c g ne = rw (ne_eqb c.switch s ne) g
+
+kinds-later : (s : ℕ) (cs : List Change) (i : ℕ) → kinds_on s (drop i cs) ≤ kinds_on s cs
+unfolding keys_on
+kinds-later s cs zero = omega arith
+kinds-later s [] (suc i) = omega arith
+kinds-later s (c ∷ cs) (suc i) =
+    let h = kinds-later s cs i in
+    by_bool (eqb c.switch s) (λ e. rw e (omega (arith, kinds_more same_key (rule_key c.rule) (keys_on s cs))))
+    (λ e. rw e h)
+
+-- too many keys of later changes are too many keys
+pub kinds-over : (s : ℕ) (cs : List Change) (i : ℕ) → leb (kinds_on s (drop i cs)) max_keys ≡ false
     → leb (kinds_on s cs) max_keys ≡ false
 kinds-over s cs i h =
-    let grows = ap (λ (ds : List Change). kinds_on s ds) (take-append-drop i cs) in
     lt-leb (kinds_on s cs) max_keys
-    (omega (arith, leb-false (kinds_on s (take i cs)) max_keys h, kinds_grow s (take i cs) (drop i cs), grows))
+    (omega (arith, leb-false (kinds_on s (drop i cs)) max_keys h, kinds-later s cs i))
 
 -- the keys of every switch
 pub collected_none : (sets : List (List Key)) → sets ≡ replicate switch_count [] → Collected sets []

@@ -84,12 +84,14 @@ impl Keys {
     }
 }
 
-// Whether changes have not too many different keys on a switch.
+// Whether changes have not too many different keys on a switch. From the last change to the first: where a hint leads to
+// another key, the keys that came from behind are compared first.
 pub(crate) fn keys_fit(changes: &[Change], switch: u8) -> bool
     ensures { result ≡ leb (kinds_on switch changes.now) max_keys }
 {
     let mut keys = Keys::new();
-    for change in changes {
+    for i in (0..changes.len()).rev() {
+        let change = changes[i];
         if change.switch == switch && !keys.insert(rule_key(change.rule)) {
             return false;
         }

@@ -1,5 +1,5 @@
 -- The records of a script in their bytes (document 01, "Rehearsal program").
-use Rattle.std.specs.Prelude.{ℕ, ◌+◌, Bool, ◌||◌, List, [], ◌∷◌, Result, Ok, Err, length, leb, ltb, eqb}
+use Rattle.std.specs.Prelude.{ℕ, ◌≡◌, ◌+◌, Bool, ◌||◌, true, false, List, [], ◌∷◌, Result, Ok, Err, MatchResult, length, leb, ltb, eqb}
 use Rattle.answer.specs.Ask.{Numbered, pick, Question, reply}
 use Rattle.lists.specs.Bytes.{field, byte_at}
 use Rattle.message.specs.Layout.{share_length}
@@ -32,6 +32,12 @@ kind_of byte =
     (pick (eqb byte (byte_of Send)) Send
     (pick (eqb byte (byte_of Report)) Report
     (pick (eqb byte (byte_of Raw)) Raw (pick (eqb byte (byte_of Keep)) Keep Deliver))))
+
+-- what is read of a byte: the kind with it, or question 31 where there is none
+abbrev pub ReadsKind : ℕ → Result Kind ℕ → Type 0
+ReadsKind byte r =
+    MatchResult r (λ kind. (is_kind byte ≡ true) × (kind ≡ kind_of byte))
+    (λ q. (is_kind byte ≡ false) × (q ≡ 31))
 
 -- bytes of a record, its kind among them
 abbrev pub size_of : Kind → ℕ

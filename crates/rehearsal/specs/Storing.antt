@@ -1,16 +1,14 @@
 -- What functions inside this crate hand to each other, and what its laws say of digits; no contract of a public one
 -- cites it.
-use Rattle.std.specs.Prelude.{ℕ, ◌≡◌, ◌+◌, ◌-◌, ◌*◌, ◌^◌, true, false, List, [], ◌∷◌, Option, Result, Ok, Err, MatchResult, length, take}
+use Rattle.std.specs.Prelude.{ℕ, ◌+◌, ◌-◌, ◌*◌, ◌^◌, true, List, [], ◌∷◌, Option, Result, Ok, Err, length, take}
 use Rattle.answer.specs.Ask.{reply}
 use Rattle.lists.specs.Arrays.{pad}
 use Rattle.rehearsal.specs.Limits.{most_lines}
-use Rattle.rehearsal.specs.Records.{is_kind, kind_of}
 use Rattle.rehearsal.specs.Effects.{place_of, switch_of, record_questions}
 use Rattle.rehearsal.specs.Scripts.{line_of, book_in, input_questions, world_in}
 use Rattle.rehearsal.specs.Deeds.{plain_deed, deed_in, world_but}
 use Rattle.rehearsal.specs.declared.Begun.{Begun}
 use Rattle.rehearsal.specs.declared.Deed.{Deed}
-use Rattle.rehearsal.specs.declared.Kind.{Kind}
 use Rattle.rehearsal.specs.declared.Line.{Line}
 use Rattle.rehearsal.specs.declared.Lines.{Lines}
 use Rattle.rehearsal.specs.declared.Record.{Record}
@@ -31,12 +29,6 @@ lines_in ls = take ls.count ls.places
 unfoldable pub begun_of : List ℕ → Result Begun ℕ
 begun_of input =
     reply (input_questions input) Err (Ok (record { script = 1 + (book_in input).used; world = world_in input }))
-
--- what is read of a byte: the kind with it, or question 31 where there is none
-abbrev pub ReadsKind : ℕ → Result Kind ℕ → Type 0
-ReadsKind byte r =
-    MatchResult r (λ kind. (is_kind byte ≡ true) × (kind ≡ kind_of byte))
-    (λ q. (is_kind byte ≡ false) × (q ≡ 31))
 
 -- a record with its bytes in a world: its deed, and the world after it
 unfoldable pub turn_of : Option ℕ → World → Record → List ℕ → Deed × World

@@ -8,7 +8,7 @@ use lists::byte_at;
 impl TryFrom<u8> for Kind {
     type Error = u8;
 
-    ghost use Rattle.rehearsal.specs.Storing.{ReadsKind};
+    ghost use Rattle.rehearsal.specs.Records.{ReadsKind};
 
     ghost try_from_gives = { ReadsKind };
 

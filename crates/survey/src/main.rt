@@ -6,6 +6,9 @@
 mod keys;
 mod uses;
 
+ghost use Rattle.std.specs.Prelude.{◌≡◌, ◌+◌, length};
+ghost use Rattle.notation.specs.Limits.{input_limit};
+
 use answer::limits;
 use notation::INPUT;
 use playbook::Playbook;
@@ -18,6 +21,12 @@ const STDIN_FILENO: i32 = 0;
 
 // The longest input that has a text, and one byte further to tell a longer one.
 const SPACE: usize = INPUT + 1;
+
+fn for_input() -> [u8; SPACE]
+    ensures { input_limit + 1 ≡ length result }
+{
+    [0u8; SPACE]
+}
 
 // The longest script, in bytes.
 const SCRIPT: usize = 8192;
@@ -81,7 +90,7 @@ fn survey(out: &mut Out, input: &[u8]) -> fmt::Result {
 
 fn main() -> fmt::Result {
     let mut out = Out::new();
-    let mut space = [0u8; SPACE];
+    let mut space = for_input();
     let n = io::read_full(STDIN_FILENO, &mut space);
     let said = survey(&mut out, &space[..n]);
     out.end();
