@@ -9,21 +9,10 @@ use std::fmt;
 #[derive(Clone, Copy)]
 pub(crate) struct Bytes<'a>(pub(crate) &'a [u8]);
 
-// A hexadecimal digit.
-fn digit(n: u8) -> char {
-    match n {
-        0..=9 => (b'0' + n) as char,
-        _ => (b'A' + n % 16 % 10) as char,
-    }
-}
-
 impl fmt::Display for Bytes<'_> {
-    // Digit by digit: the format `{:02X}` takes twice the time.
     fn fmt<W: fmt::Write>(&self, f: &mut fmt::Formatter<W>) -> fmt::Result {
         for byte in self.0 {
-            f.write_char(' ')?;
-            f.write_char(digit(byte / 16))?;
-            f.write_char(digit(byte % 16))?;
+            write!(f, " {byte:02X}")?;
         }
         Ok(())
     }

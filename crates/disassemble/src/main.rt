@@ -8,7 +8,7 @@ ghost use Rattle.std.specs.Prelude.{◌≡◌, ◌+◌, ◌≤◌, IfSome, lengt
 ghost use Rattle.notation.specs.Kinds.{byte_of, record_size};
 ghost use Rattle.notation.specs.Limits.{input_limit};
 
-use fields::{Bytes, RecordFields};
+use fields::RecordFields;
 use notation::{INPUT, Kind, LINE};
 use prose::Out;
 use std::fmt;
@@ -44,12 +44,20 @@ fn say_record(out: &mut Out, kind: Kind, record: &[u8]) -> fmt::Result {
     )
 }
 
-// What is no record, in full lines but for the last.
-fn say_unnamed(out: &mut Out, s: &[u8]) -> fmt::Result {
+// A hexadecimal digit.
+fn digit(n: u8) -> u8 {
+    if n < 10 { b'0' + n } else { b'A' + n % 16 % 10 }
+}
+
+// What is no record, in full lines but for the last. It may be long, and a format for each byte takes half as long again.
+fn say_unnamed(out: &mut Out, s: &[u8]) {
     for line in s.chunks(LINE) {
-        writeln!(out, "bytes{}", Bytes(line))?;
+        out.write_bytes(b"bytes");
+        for byte in line {
+            out.write_bytes(&[b' ', digit(byte / 16), digit(byte % 16)]);
+        }
+        out.write_bytes(b"\n");
     }
-    Ok(())
 }
 
 // The kind of the record at the front, which is whole.
@@ -72,7 +80,8 @@ fn say_records(out: &mut Out, s: &[u8]) -> fmt::Result {
         say_record(out, kind, record)?;
         rest = behind;
     }
-    say_unnamed(out, rest)
+    say_unnamed(out, rest);
+    Ok(())
 }
 
 fn disassemble(out: &mut Out, input: &[u8]) -> fmt::Result {
