@@ -57,21 +57,21 @@ impl fmt::Display for Book<'_> {
 }
 
 // The playbook of all the bytes.
-pub(crate) fn read_whole(out: &mut Out, s: &[u8]) -> Result<Playbook, fmt::Error> {
+pub(crate) fn read_whole(out: &mut Out, book: &mut Playbook, s: &[u8]) -> fmt::Result {
     let outcome = playbook::read(s);
-    write!(out, " read {}{}", outcome.answer, Book(&outcome.playbook))?;
-    Ok(outcome.playbook)
+    *book = outcome.playbook;
+    write!(out, " read {}{}", outcome.answer, Book(book))
 }
 
 // The playbook of the bytes up to its end record.
-pub(crate) fn read_first(out: &mut Out, s: &[u8]) -> Result<Playbook, fmt::Error> {
+pub(crate) fn read_first(out: &mut Out, book: &mut Playbook, s: &[u8]) -> fmt::Result {
     let outcome = playbook::read_first(s);
+    *book = outcome.playbook;
     write!(
         out,
         " read first {} {}{}",
         outcome.answer,
         outcome.used,
-        Book(&outcome.playbook)
-    )?;
-    Ok(outcome.playbook)
+        Book(book)
+    )
 }

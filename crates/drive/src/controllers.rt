@@ -106,42 +106,37 @@ impl fmt::Display for ReplyFields<'_> {
     }
 }
 
-fn set_up(out: &mut Out, book: Playbook, body: &[u8]) -> Result<Controller, fmt::Error> {
-    let r = controller::setup(byte_at(body, 0), byte_at(body, 1), book);
-    write!(out, " setup{}", ReplyFields(&r))?;
-    Ok(r.state)
+// A call is made at a controller where it stands: a state handed out in a result would be cleared for each call.
+fn set_up(out: &mut Out, c: &mut Controller, book: &Playbook, body: &[u8]) -> fmt::Result {
+    let r = controller::setup(byte_at(body, 0), byte_at(body, 1), *book);
+    *c = r.state;
+    write!(out, " setup{}", ReplyFields(&r))
 }
 
-fn receive(
-    out: &mut Out,
-    c: Controller,
-    keys: &[u8],
-    body: &[u8],
-) -> Result<Controller, fmt::Error> {
-    let r = controller::receive(c, keys, body);
-    write!(out, " received{}", ReplyFields(&r))?;
-    Ok(r.state)
+fn receive(out: &mut Out, c: &mut Controller, keys: &[u8], body: &[u8]) -> fmt::Result {
+    let r = controller::receive(*c, keys, body);
+    *c = r.state;
+    write!(out, " received{}", ReplyFields(&r))
 }
 
-fn decide(out: &mut Out, c: Controller, body: &[u8]) -> Result<Controller, fmt::Error> {
-    let r = controller::decide(c, byte_at(body, 0), u32_at(body, 1), byte_at(body, 5));
-    write!(out, " decided{}", ReplyFields(&r))?;
-    Ok(r.state)
+fn decide(out: &mut Out, c: &mut Controller, body: &[u8]) -> fmt::Result {
+    let r = controller::decide(*c, byte_at(body, 0), u32_at(body, 1), byte_at(body, 5));
+    *c = r.state;
+    write!(out, " decided{}", ReplyFields(&r))
 }
 
-fn write(out: &mut Out, c: Controller, keys: &[u8], body: &[u8]) -> Result<Controller, fmt::Error> {
+fn write(out: &mut Out, c: &mut Controller, keys: &[u8], body: &[u8]) -> fmt::Result {
     let switch = byte_at(body, 1);
     let at = frames::offset_of(body);
     let n = frames::lent_of(body, frames::SIZE);
     let mut frame = [0xee; frames::SIZE];
-    let r = controller::write_share(c, keys, switch, &mut frame[..n], at);
-    write!(out, " written{} frame {}", ReplyFields(&r), Hex(&frame))?;
-    Ok(r.state)
+    let r = controller::write_share(*c, keys, switch, &mut frame[..n], at);
+    *c = r.state;
+    write!(out, " written{} frame {}", ReplyFields(&r), Hex(&frame))
 }
 
-fn show_book(out: &mut Out, c: Controller) -> Result<Controller, fmt::Error> {
-    write!(out, " holds{}", Book(&c.playbook))?;
-    Ok(c)
+fn show_book(out: &mut Out, c: &Controller) -> fmt::Result {
+    write!(out, " holds{}", Book(&c.playbook))
 }
 
 fn rule_at(b: &[u8], place: u8) -> Rule {
@@ -180,9 +175,8 @@ fn change_in(b: &[u8]) -> Change {
     }
 }
 
-// The state with one field altered, by its number in tests/DRIVE.md.
-fn altered(c: Controller, b: &[u8]) -> Controller {
-    let mut next = c;
+// One field of the state altered, by its number in tests/DRIVE.md.
+fn alter_field(next: &mut Controller, b: &[u8]) {
     let x = byte_at(b, 1);
     let i = x as usize;
     match byte_at(b, 0) {
@@ -205,25 +199,24 @@ fn altered(c: Controller, b: &[u8]) -> Controller {
         ),
         _ => {}
     }
-    next
 }
 
-fn alter(out: &mut Out, c: Controller, body: &[u8]) -> Result<Controller, fmt::Error> {
-    write!(out, " altered")?;
-    Ok(altered(c, body))
+fn alter(out: &mut Out, c: &mut Controller, body: &[u8]) -> fmt::Result {
+    alter_field(c, body);
+    write!(out, " altered")
 }
 
-// A call made at a controller, and the state after it; a setup takes the playbook.
-pub(crate) fn made(
+// A call made at a controller; a setup takes the playbook.
+pub(crate) fn make(
     out: &mut Out,
-    c: Controller,
-    book: Playbook,
+    c: &mut Controller,
+    book: &Playbook,
     keys: &[u8],
     call: Call,
     body: &[u8],
-) -> Result<Controller, fmt::Error> {
+) -> fmt::Result {
     match call {
-        Call::SetUp => set_up(out, book, body),
+        Call::SetUp => set_up(out, c, book, body),
         Call::Receive => receive(out, c, keys, body),
         Call::Decide => decide(out, c, body),
         Call::Write => write(out, c, keys, body),

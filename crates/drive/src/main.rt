@@ -79,10 +79,9 @@ impl Call {
     }
 }
 
-fn keys_of(out: &mut Out, name: &str, end: u8, body: &[u8]) -> Result<Store, fmt::Error> {
-    let store = Store::of(body);
-    writeln!(out, "{name} {end} keys {}", store.in_use().len())?;
-    Ok(store)
+fn store_keys(out: &mut Out, store: &mut Store, name: &str, end: u8, body: &[u8]) -> fmt::Result {
+    *store = Store::of(body);
+    writeln!(out, "{name} {end} keys {}", store.in_use().len())
 }
 
 impl World {
@@ -98,7 +97,7 @@ impl World {
         }
     }
 
-    // A call made on what it names, taken out of the world and put back: the world is large, and stays where it is.
+    // A call made on what it names, where it stands: the world is large.
     fn make(&mut self, out: &mut Out, call: Call, end: u8, body: &[u8]) -> fmt::Result {
         let i = end as usize;
         if limits::OF_SWITCHES <= i {
@@ -108,41 +107,34 @@ impl World {
             Call::AtSwitch(call) => {
                 write!(out, "switch {end}")?;
                 let keys = self.switch_keys[i];
-                let next = switches::made(out, self.switches[i], keys.in_use(), call, body)?;
-                self.switches[i] = next;
+                switches::make(out, &mut self.switches[i], keys.in_use(), call, body)?;
                 writeln!(out)
             }
             Call::AtController(call) => {
                 write!(out, "controller {end}")?;
                 let keys = self.controller_keys[i];
-                let book = self.book;
-                let next = controllers::made(
+                controllers::make(
                     out,
-                    self.controllers[i],
-                    book,
+                    &mut self.controllers[i],
+                    &self.book,
                     keys.in_use(),
                     call,
                     body,
                 )?;
-                self.controllers[i] = next;
                 writeln!(out)
             }
-            Call::SwitchKeys => {
-                self.switch_keys[i] = keys_of(out, "switch", end, body)?;
-                Ok(())
-            }
+            Call::SwitchKeys => store_keys(out, &mut self.switch_keys[i], "switch", end, body),
             Call::ControllerKeys => {
-                self.controller_keys[i] = keys_of(out, "controller", end, body)?;
-                Ok(())
+                store_keys(out, &mut self.controller_keys[i], "controller", end, body)
             }
             Call::WholeBook => {
                 write!(out, "controller {end}")?;
-                self.book = books::read_whole(out, body)?;
+                books::read_whole(out, &mut self.book, body)?;
                 writeln!(out)
             }
             Call::FirstBook => {
                 write!(out, "controller {end}")?;
-                self.book = books::read_first(out, body)?;
+                books::read_first(out, &mut self.book, body)?;
                 writeln!(out)
             }
             Call::FlowMod => flow_mods::write(out, body),

@@ -75,22 +75,23 @@ impl fmt::Display for Found {
     }
 }
 
-fn set_up(out: &mut Out, body: &[u8]) -> Result<Switch, fmt::Error> {
+// A call is made at a switch where it stands: a state handed out in a result would be cleared for each call.
+fn set_up(out: &mut Out, s: &mut Switch, body: &[u8]) -> fmt::Result {
     let r = switch::setup(byte_at(body, 0), byte_at(body, 1));
-    write!(out, " setup{}", ReplyFields(&r))?;
-    Ok(r.state)
+    *s = r.state;
+    write!(out, " setup{}", ReplyFields(&r))
 }
 
-fn receive(out: &mut Out, s: Switch, keys: &[u8], body: &[u8]) -> Result<Switch, fmt::Error> {
-    let r = switch::receive(s, keys, body);
-    write!(out, " received{}", ReplyFields(&r))?;
-    Ok(r.state)
+fn receive(out: &mut Out, s: &mut Switch, keys: &[u8], body: &[u8]) -> fmt::Result {
+    let r = switch::receive(*s, keys, body);
+    *s = r.state;
+    write!(out, " received{}", ReplyFields(&r))
 }
 
-fn raise(out: &mut Out, s: Switch, body: &[u8]) -> Result<Switch, fmt::Error> {
-    let r = switch::raise(s, byte_at(body, 0));
-    write!(out, " raised{}", ReplyFields(&r))?;
-    Ok(r.state)
+fn raise(out: &mut Out, s: &mut Switch, body: &[u8]) -> fmt::Result {
+    let r = switch::raise(*s, byte_at(body, 0));
+    *s = r.state;
+    write!(out, " raised{}", ReplyFields(&r))
 }
 
 // An event is lent, raised in place and read again.
@@ -106,62 +107,52 @@ fn raised_in_place(was: Raised, cause: u8) -> Stepped
 }
 
 // The switch's own event, raised in place: question 20 is not asked.
-fn raise_in_place(out: &mut Out, s: Switch, body: &[u8]) -> Result<Switch, fmt::Error> {
+fn raise_in_place(out: &mut Out, s: &mut Switch, body: &[u8]) -> fmt::Result {
     let step = raised_in_place(s.raised, byte_at(body, 0));
-    let mut state = s;
-    state.raised = step.raised;
+    s.raised = step.raised;
     let r = Reply {
         answer: step.answer,
-        state,
+        state: *s,
     };
-    write!(out, " raised in place{}", ReplyFields(&r))?;
-    Ok(r.state)
+    write!(out, " raised in place{}", ReplyFields(&r))
 }
 
 // What is written, and the frame printed whole.
-fn written(out: &mut Out, r: Reply, frame: &[u8; frames::SIZE]) -> Result<Switch, fmt::Error> {
-    write!(out, " written{} frame {}", ReplyFields(&r), Hex(frame))?;
-    Ok(r.state)
+fn written(out: &mut Out, s: &mut Switch, r: &Reply, frame: &[u8; frames::SIZE]) -> fmt::Result {
+    *s = r.state;
+    write!(out, " written{} frame {}", ReplyFields(r), Hex(frame))
 }
 
-fn write_event(out: &mut Out, s: Switch, keys: &[u8], body: &[u8]) -> Result<Switch, fmt::Error> {
+fn write_event(out: &mut Out, s: &mut Switch, keys: &[u8], body: &[u8]) -> fmt::Result {
     let at = frames::offset_of(body);
     let n = frames::lent_of(body, frames::SIZE);
     let mut frame = [0xee; frames::SIZE];
-    let r = switch::write_event(s, keys, byte_at(body, 1), &mut frame[..n], at);
-    written(out, r, &frame)
+    let r = switch::write_event(*s, keys, byte_at(body, 1), &mut frame[..n], at);
+    written(out, s, &r, &frame)
 }
 
-fn write_acknowledgement(
-    out: &mut Out,
-    s: Switch,
-    keys: &[u8],
-    body: &[u8],
-) -> Result<Switch, fmt::Error> {
+fn write_acknowledgement(out: &mut Out, s: &mut Switch, keys: &[u8], body: &[u8]) -> fmt::Result {
     let at = frames::offset_of(body);
     let n = frames::lent_of(body, frames::SIZE);
     let mut frame = [0xee; frames::SIZE];
-    let r = switch::write_acknowledgement(s, keys, byte_at(body, 1), &mut frame[..n], at);
-    written(out, r, &frame)
+    let r = switch::write_acknowledgement(*s, keys, byte_at(body, 1), &mut frame[..n], at);
+    written(out, s, &r, &frame)
 }
 
-fn look_up(out: &mut Out, s: Switch, body: &[u8]) -> Result<Switch, fmt::Error> {
-    match switch::lookup(s, u32_at(body, 0)) {
-        Err(k) => write!(out, " looked up refused {k}")?,
-        Ok(found) => write!(out, " looked up {}", Found(found))?,
+fn look_up(out: &mut Out, s: &Switch, body: &[u8]) -> fmt::Result {
+    match switch::lookup(*s, u32_at(body, 0)) {
+        Err(k) => write!(out, " looked up refused {k}"),
+        Ok(found) => write!(out, " looked up {}", Found(found)),
     }
-    Ok(s)
 }
 
-fn forward(out: &mut Out, s: Switch, body: &[u8]) -> Result<Switch, fmt::Error> {
+fn forward(out: &mut Out, s: &Switch, body: &[u8]) -> fmt::Result {
     let found = flow::lookup(s.table, u32_at(body, 0));
-    write!(out, " forwarded {}", Found(found))?;
-    Ok(s)
+    write!(out, " forwarded {}", Found(found))
 }
 
-fn count_quorum(out: &mut Out, s: Switch, body: &[u8]) -> Result<Switch, fmt::Error> {
-    write!(out, " quorum {}", switch::quorum(byte_at(body, 0)))?;
-    Ok(s)
+fn count_quorum(out: &mut Out, body: &[u8]) -> fmt::Result {
+    write!(out, " quorum {}", switch::quorum(byte_at(body, 0)))
 }
 
 fn raised_at(b: &[u8]) -> Raised {
@@ -190,9 +181,8 @@ fn entry_in(b: &[u8]) -> Entry {
     }
 }
 
-// The state with one field altered, by its number in tests/DRIVE.md.
-fn altered(s: Switch, b: &[u8]) -> Switch {
-    let mut next = s;
+// One field of the state altered, by its number in tests/DRIVE.md.
+fn alter_field(next: &mut Switch, b: &[u8]) {
     let x = byte_at(b, 1);
     let i = x as usize;
     match byte_at(b, 0) {
@@ -205,24 +195,23 @@ fn altered(s: Switch, b: &[u8]) -> Switch {
         6 => next.table.count = i,
         _ => {}
     }
-    next
 }
 
-fn alter(out: &mut Out, s: Switch, body: &[u8]) -> Result<Switch, fmt::Error> {
-    write!(out, " altered")?;
-    Ok(altered(s, body))
+fn alter(out: &mut Out, s: &mut Switch, body: &[u8]) -> fmt::Result {
+    alter_field(s, body);
+    write!(out, " altered")
 }
 
-// A call made at a switch, and the state after it.
-pub(crate) fn made(
+// A call made at a switch.
+pub(crate) fn make(
     out: &mut Out,
-    s: Switch,
+    s: &mut Switch,
     keys: &[u8],
     call: Call,
     body: &[u8],
-) -> Result<Switch, fmt::Error> {
+) -> fmt::Result {
     match call {
-        Call::SetUp => set_up(out, body),
+        Call::SetUp => set_up(out, s, body),
         Call::Receive => receive(out, s, keys, body),
         Call::Raise => raise(out, s, body),
         Call::RaiseInPlace => raise_in_place(out, s, body),
@@ -230,7 +219,7 @@ pub(crate) fn made(
         Call::WriteAcknowledgement => write_acknowledgement(out, s, keys, body),
         Call::LookUp => look_up(out, s, body),
         Call::Forward => forward(out, s, body),
-        Call::CountQuorum => count_quorum(out, s, body),
+        Call::CountQuorum => count_quorum(out, body),
         Call::Alter => alter(out, s, body),
     }
 }
