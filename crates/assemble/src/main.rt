@@ -63,6 +63,9 @@ fn write(output: &Output) -> fmt::Result {
 fn assemble(text: &[u8]) -> fmt::Result {
     let mut progress = Progress::new();
     for (number, line) in (1..).zip(text.split_inclusive(|b| *b == b'\n')) {
+        if let [b'\n' | b'#', ..] = line {
+            continue;
+        }
         let words = Words::new(line);
         if words.next.is_empty() {
             continue;
